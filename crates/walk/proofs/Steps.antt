@@ -81,19 +81,19 @@ module _ (w : ℕ → ℕ) (t : Table) (base p : ℕ) where
   bulk-holds =
       let row = nibble w (base + 2) (p / 32) in
       let scale = field (w base) 8 4 in
-      next-holds (nextOf (At (average w base)) row scale) (rowSum w base p) (nibble w (base + 8) (p % 32)) (field (w base) 4 4)
+      next-holds (nextOf (At (average w base)) row scale) (rowSum w base (p / 32)) (nibble w (base + 8) (p % 32)) (field (w base) 4 4)
       (next-holds (At (average w base)) (average w base) row scale refl)
 
   bulk-steps : (rest : List Step)
-      → firstOutside (term t p (rowTerm w base p) ∷ sum t p (rowSum w base p) ∷ term t p (columnTerm w base p) ∷ sum t p (columnSum w base p) ∷ rest)
+      → firstOutside (term t p (rowTerm w base (p / 32)) ∷ sum t p (rowSum w base (p / 32)) ∷ term t p (columnTerm w base (p % 32)) ∷ sum t p (columnSum w base p) ∷ rest)
       ≡ beyond t p (bulkOf w base p) rest
   unfolding bulkOf columnSum rowSum
   bulk-steps rest =
       let row = nibble w (base + 2) (p / 32) in
       let scale = field (w base) 8 4 in
       let start = At (average w base) in
-      next-steps t p start (average w base) row scale (term t p (columnTerm w base p) ∷ sum t p (columnSum w base p) ∷ rest) refl
-      ∙ next-steps t p (nextOf start row scale) (rowSum w base p) (nibble w (base + 8) (p % 32)) (field (w base) 4 4) rest
+      next-steps t p start (average w base) row scale (term t p (columnTerm w base (p % 32)) ∷ sum t p (columnSum w base p) ∷ rest) refl
+      ∙ next-steps t p (nextOf start row scale) (rowSum w base (p / 32)) (nibble w (base + 8) (p % 32)) (field (w base) 4 4) rest
       (next-holds start (average w base) row scale refl)
 
 -- a pixel's steps are the code's

@@ -13,21 +13,22 @@ nibble w first k = signedField (w (first + k / 4)) (4 * (k % 4)) 4
 abbrev pub average : (ℕ → ℕ) → ℕ → ℤ
 average w base = signedField (w (base + 1)) 0 16
 
+-- the terms of a row, of a column and of a pixel's own remainder, which stands in its word from bit low up: 10 for offset and 4 for alpha
 abbrev pub rowTerm : (ℕ → ℕ) → ℕ → ℕ → ℤ
-rowTerm w base p = termOf (nibble w (base + 2) (p / 32)) (field (w base) 8 4)
+rowTerm w base row = termOf (nibble w (base + 2) row) (field (w base) 8 4)
 
 abbrev pub columnTerm : (ℕ → ℕ) → ℕ → ℕ → ℤ
-columnTerm w base p = termOf (nibble w (base + 8) (p % 32)) (field (w base) 4 4)
+columnTerm w base column = termOf (nibble w (base + 8) column) (field (w base) 4 4)
 
 abbrev pub remainderTerm : (ℕ → ℕ) → ℕ → ℕ → ℕ → ℤ
 remainderTerm w base low p = termOf (signedField (w (0x40 + p)) low 6) (field (w base) 0 4)
 
--- the sum up to the row, up to the column, and the whole; the remainder stands in the pixel's word from bit low up, 10 for offset and 4 for alpha
+-- average + row; + column; + remainder
 unfoldable pub rowSum : (ℕ → ℕ) → ℕ → ℕ → ℤ
-rowSum w base p = average w base +ℤ rowTerm w base p
+rowSum w base row = average w base +ℤ rowTerm w base row
 
 unfoldable pub columnSum : (ℕ → ℕ) → ℕ → ℕ → ℤ
-columnSum w base p = rowSum w base p +ℤ columnTerm w base p
+columnSum w base p = rowSum w base (p / 32) +ℤ columnTerm w base (p % 32)
 
 unfoldable pub wholeSum : (ℕ → ℕ) → ℕ → ℕ → ℕ → ℤ
 wholeSum w base low p = columnSum w base p +ℤ remainderTerm w base low p

@@ -1,6 +1,6 @@
 -- The walk: every number that 16 bits must hold, in order. The refusal of an image is that of the first one outside -32768..32767.
 -- Assumes nothing.
-use Prim.Native.Nat.{ℕ, zero, suc, _+_}
+use Prim.Native.Nat.{ℕ, zero, suc, _+_, _/_, _%_}
 use mathlib.Core.Path.{_≡_}
 use mathlib.Core.Bool.{true, false, cond}
 use mathlib.Core.List.{List, [], _∷_, _++_}
@@ -29,9 +29,9 @@ refusalIn (sum t p z) = Sum t p
 -- row term, average + row, column term, + column, remainder term
 unfoldable pub bulkSteps : (ℕ → ℕ) → Table → ℕ → ℕ → ℕ → List Step
 bulkSteps w t base low p =
-    term t p (rowTerm w base p)
-    ∷ sum t p (rowSum w base p)
-    ∷ term t p (columnTerm w base p)
+    term t p (rowTerm w base (p / 32))
+    ∷ sum t p (rowSum w base (p / 32))
+    ∷ term t p (columnTerm w base (p % 32))
     ∷ sum t p (columnSum w base p)
     ∷ term t p (remainderTerm w base low p)
     ∷ []
