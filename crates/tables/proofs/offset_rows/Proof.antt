@@ -5,7 +5,7 @@ use Rattle.tables.proofs.offset_rows.Lts as lts
 use Rattle.tables.proofs.offset_row.Reads as offset-row-reads
 
 abbrev Inv-loop : tie.InvT-loop
-Inv-loop words rows columns power out₀ r₀ out r = ?
+Inv-loop words rows columns power out₀ r₀ out r = (r Prim.Native.Nat.≤ 24)
 
 abbrev μ-loop : tie.MeasureT-loop
 μ-loop words rows columns power out₀ r₀ out r = ?
