@@ -10,6 +10,7 @@ use Rattle.refusal.specs.declared.Table.{Table}
 use Rattle.refusal.specs.declared.Table.the-variants.{Offset, Alpha, Kta}
 use Rattle.util.specs.Words.{signedField}
 use Rattle.util.specs.Sums.{in16}
+use Rattle.walk.specs.Parts.{rowTerm, rowSum, columnTerm}
 
 -- where the sum of row r stands after column c. The columns are given twice, for even rows and for odd ones.
 abbrev pub columnPart : List ℤ → List ℤ → ℕ → ℕ → ℤ
@@ -35,3 +36,10 @@ EntriesFit w rows columns power = (r c : ℕ) → r < 24 → c < 32 → in16 (ro
 -- a whole number below 2 ^ 24 in size is an f32
 abbrev pub EntriesExact : (ℕ → ℕ) → Table → List ℤ → List ℤ → ℕ → Type 0
 EntriesExact w t rows columns power = (r c : ℕ) → r < 24 → c < 32 → natAbs (rowEntry w t rows columns power r c) < 2 ^ 24
+
+-- and that the terms and the sums up to each row do
+abbrev pub RowsFit : (ℕ → ℕ) → ℕ → Type 0
+RowsFit w base = (r : ℕ) → r < 24 → (in16 (rowTerm w base r) ≡ true) × (in16 (rowSum w base r) ≡ true)
+
+abbrev pub ColumnsFit : (ℕ → ℕ) → ℕ → Type 0
+ColumnsFit w base = (c : ℕ) → c < 32 → in16 (columnTerm w base c) ≡ true

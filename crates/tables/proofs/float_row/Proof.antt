@@ -49,7 +49,7 @@ loop-again c =
     let h : s .k ≤ 149 = omega (arith, start .pre .2) in
     let f : ℕ → Float = λ m. dyadic (rowEntry (listed (s .words .now)) (s .t) (s .rows .now) (s .columns .now) (s .power) (s .r) m) (s .k) in
     let stored : c .over .result ≡ f n =
-        c .over .ensures (s .k) h (at-loop .before .up-power .ensures) ∙ ap (λ (z : ℤ). dyadic z (s .k)) (entry-is (c .before)) in
+    c .over .ensures (s .k) h (at-loop .before .up-power .ensures) ∙ ap (λ (z : ℤ). dyadic z (s .k)) (entry-is (c .before)) in
     let l : n < length (s .out .now) = omega (arith, start .pre .3) in
     (omega arith, rw (stored, at-loop .loop .inv .1) (tab-more f n (s .out .now) l), simp length-set (at-loop .loop .inv .2))
 
