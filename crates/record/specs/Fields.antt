@@ -85,7 +85,7 @@ alphaCp w =
     let r = signedField (w 0x39) 10 6 in
     let n = pos (field (w 0x39) 0 10) in
     let k = alphaScale w + 27 in
-    (n /2^ k) ∷ ((pos 128 +ℤ r) *ℤ n /2^ (k + 7)) ∷ []
+    (n /2^ k) ∷ (n *ℤ (pos 128 +ℤ r) /2^ (k + 7)) ∷ []
 
 -- 0x243A: s6 in 15..10 = d; s10 in 9..0 = m; offset_reference_cp = m, m + d
 unfoldable pub offsetReferenceCp : (ℕ → ℕ) → List ℤ

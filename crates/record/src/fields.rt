@@ -97,7 +97,7 @@ fn k_s_to(words: &[u16; 832]) -> [f32; 4]
 // n (128 + r).
 fn raised(n: u16, r: i16) -> i32
     requires { ⌜ (n < 1024) × (mag r < 32) ⌝ }
-    ensures { λ s. ⌜ s ≡ (pos 128 +ℤ r) *ℤ pos n ⌝ }
+    ensures { λ s. ⌜ s ≡ pos n *ℤ (pos 128 +ℤ r) ⌝ }
     ensures { λ s. ⌜ natAbs s < 2 ^ 24 ⌝ }
 {
     (128 + (r as i32)) * (n as i32)
