@@ -1,0 +1,2 @@
+use compare::tally::Tally;
+pub fn run(_tally: &mut Tally, _print: bool) {}
