@@ -93,7 +93,7 @@ macro_rules! judge {
 
             impl Judge for Mlx90640Calibration {
                 fn decode(image: &[u8]) -> Outcome<Self> {
-                    outcome(|| Mlx90640Calibration::from_data(image).map_err(|error| error.to_string()))
+                    outcome(|| $krate::from_data(image).map_err(|error| error.to_string()))
                 }
 
                 fn record(&self) -> [u8; 122] {
@@ -215,7 +215,7 @@ macro_rules! judge {
                 }
 
                 fn resolution_correction(calibrated: u8, current: u8) -> Outcome<u32> {
-                    outcome(|| Ok(Mlx90640::resolution_correction(calibrated, current).to_bits()))
+                    outcome(|| Ok($krate::resolution_correction(calibrated, current).to_bits()))
                 }
 
                 fn addresses() -> Vec<u16> {
