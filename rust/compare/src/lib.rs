@@ -4,4 +4,5 @@ pub mod guarded;
 pub mod images;
 pub mod judge;
 pub mod model;
+pub mod sample;
 pub mod tally;

@@ -14,6 +14,7 @@ use compare::guarded::{refused_of, Bench, Depth, FULL};
 use compare::images::{self, Numbers};
 use compare::judge::{self, Checked, Judge, Outcome, Release};
 use compare::model::{self, refused};
+use compare::sample;
 use compare::tally::Tally;
 use mofuleka::lent;
 
@@ -363,6 +364,21 @@ fn camera(tally: &mut Tally) {
     }
 }
 
+/// The committed sample is what the original crate answers today.
+fn committed_sample(tally: &mut Tally) {
+    tally.kind("the committed sample");
+    match env::var_os("SAMPLE") {
+        Some(path) => {
+            let file = std::fs::read(&path).unwrap_or_default();
+            let made = sample::bytes();
+            tally.current().images += sample::sample().len() as u64;
+            tally.same(|| "its length".into(), file.len(), made.len());
+            tally.same(|| "its bytes".into(), file == made, true);
+        }
+        None => println!("the committed sample is not there: not compared"),
+    }
+}
+
 fn work(jobs: &[Job], threads: usize) -> Tally {
     let next = AtomicUsize::new(0);
     let all = Mutex::new(Tally::default());
@@ -429,6 +445,7 @@ fn main() {
     let mut tally = work(&jobs(&plan), threads.max(1));
     caldump::run(&mut tally, seed);
     differences::run(&mut tally, false);
+    committed_sample(&mut tally);
     tally.print();
     println!("{:.1} s", start.elapsed().as_secs_f64());
     println!("{} compared, {} different", tally.numbers(), tally.total_different());
