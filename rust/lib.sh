@@ -56,6 +56,8 @@ for_x86_64() {
     "${as[@]}" apt-get update -qq >&2
   fi
   install rustc cargo libstd-rust-dev:amd64 gcc-x86-64-linux-gnu g++-x86-64-linux-gnu qemu-user libc6:amd64 libstdc++6:amd64
+  # A newer cargo's lock file is not read by Debian's; it is made anew.
+  rm -f "$root"/rust/*/Cargo.lock
   # Debian's cargo and rustc belong together: its folder comes first.
   export PATH=/usr/bin:$PATH
   cargo=/usr/bin/cargo

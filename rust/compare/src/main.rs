@@ -428,9 +428,9 @@ fn main() {
     });
     let plan = match word.as_deref() {
         Some("all") => Plan { seed, count: 400_000, one_in: 1 },
-        None => Plan { seed, count: 40_000, one_in: 16 },
+        None => Plan { seed, count: 60_000, one_in: 4 },
         Some(text) => match text.parse() {
-            Ok(count) => Plan { seed, count, one_in: (16 * 40_000 / u64::max(count, 1)).max(1) },
+            Ok(count) => Plan { seed, count, one_in: (4 * 60_000 / u64::max(count, 1)).max(1) },
             Err(_) => {
                 eprintln!("compare [COUNT|all|differences]");
                 exit(2)
