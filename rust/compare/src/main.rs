@@ -20,6 +20,7 @@ use mofuleka::lent;
 
 mod caldump;
 mod differences;
+mod viewer;
 
 type Job = Box<dyn Fn(&mut Tally, &mut Bench) + Send + Sync>;
 
@@ -444,6 +445,7 @@ fn main() {
     let start = Instant::now();
     let mut tally = work(&jobs(&plan), threads.max(1));
     caldump::run(&mut tally, seed);
+    viewer::run(&mut tally, seed);
     differences::run(&mut tally, false);
     committed_sample(&mut tally);
     tally.print();

@@ -63,13 +63,19 @@ fn main() -> Result<(), Box<dyn Error>> {
         }
     };
     println!("{:#?}", calibration);
-    let ranges = calibration.offset_reference_pixels(Subpage::Zero);
-    println!("offsets from {:?} to {:?}", ranges.clone().min(), ranges.max());
-    println!("alpha of pixel 0: {:?}", calibration.alpha_pixels(Subpage::Zero).next());
-    println!("Kta of pixel 0: {:?}", calibration.k_ta_pixels(Subpage::Zero).next());
-    println!("Kv of pixel 0: {:?}", calibration.k_v_pixel(0)?);
-    let corrections: Vec<_> =
-        calibration.access_pattern_compensation_pixels(AccessPattern::Interleave).take(4).collect();
-    println!("interleave corrections of row 0: {:?}", corrections);
+    let offsets: Vec<i16> = calibration.offset_reference_pixels(Subpage::Zero).copied().collect();
+    let alphas: Vec<f32> = calibration.alpha_pixels(Subpage::Zero).copied().collect();
+    let k_tas: Vec<f32> = calibration.k_ta_pixels(Subpage::Zero).copied().collect();
+    for pixel in [0, 1, 32, 33, 767] {
+        println!(
+            "pixel {}: offset {}, alpha {:e}, Kta {}, Kv {}, interleave correction {}",
+            pixel,
+            offsets[pixel],
+            alphas[pixel],
+            k_tas[pixel],
+            calibration.k_v_pixel(pixel)?,
+            calibration.access_pattern_compensation_pixel(pixel, AccessPattern::Interleave)?.unwrap_or(0.0),
+        );
+    }
     Ok(())
 }

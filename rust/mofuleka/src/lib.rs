@@ -26,6 +26,7 @@
 
 mod calibration;
 mod camera;
+pub mod common;
 mod gathering;
 mod later;
 pub mod lent;
@@ -36,17 +37,13 @@ pub use calibration::{Calibration, Corrections};
 pub use camera::{
     AccessPattern, Address, Mlx90640, PixelAddressRange, PixelRanges, PixelsInSubpage, RamAddress, Subpage,
 };
+pub use common::{CalibrationData, MelexisCamera};
 pub use gathering::{Gathering, Status, Word};
 pub use refusal::{Reason, Refusal};
 
 /// The names of mlx9064x's module of this name.
 pub mod mlx90640 {
     pub use crate::{Calibration as Mlx90640Calibration, Mlx90640, RamAddress};
-}
-
-/// The names of mlx9064x's module of this name.
-pub mod common {
-    pub use crate::{Address, PixelAddressRange};
 }
 
 /// The names of mlx9064x's module of this name.
