@@ -95,17 +95,23 @@ fn main() {
     let rounds = env::args().nth(1).and_then(|text| text.parse().ok()).unwrap_or(15);
     let mut sink = 0;
     let lifelike = images::lifelike(1);
-    // Accepted, but with scales so large that no bound on fields and scales alone can tell.
+    // Accepted, but with terms that a bound from the extremes of rows, columns and remainders can't clear, in all three tables.
     let mut past = lifelike;
     images::set(&mut past, 0x2410, 0x4F10);
-    images::set(&mut past, 0x2411, 0x0000);
-    for address in 0x2412..0x2418 {
-        images::set(&mut past, address, 0x0000);
+    images::set(&mut past, 0x2420, 0x7F16);
+    for start in [0x2410, 0x2420] {
+        images::set(&mut past, start + 1, 0x0000);
+        for row in 2..8 {
+            images::set(&mut past, start + row, 0x0000);
+        }
+        // Row 1 alone, at the very limit; the columns bring it back.
+        images::set(&mut past, start + 2, 0x00F0);
+        for column in 8..16 {
+            images::set(&mut past, start + column, 0x1111);
+        }
     }
-    images::set(&mut past, 0x2412, 0x00F0);
-    for address in 0x2418..0x2420 {
-        images::set(&mut past, address, 0x1111);
-    }
+    images::set(&mut past, 0x2436, 0xFF54);
+    images::set(&mut past, 0x2438, 0x236D);
     for pixel in 32..64 {
         images::set(&mut past, 0x2440 + pixel, 0x0000);
     }
@@ -168,7 +174,7 @@ fn main() {
         };
         case("the crate against itself", &mut |_| crate_decodes(&lifelike));
         case("decode, lifelike", &mut |_| l.decode(&lifelike));
-        case("decode, accepted past any bound", &mut |_| l.decode(&past));
+        case("decode, accepted past the bound", &mut |_| l.decode(&past));
         case("decode, refused at the first pixel", &mut |_| l.decode(&first));
         case("decode, refused at the last offset", &mut |_| l.decode(&last));
         case("decode, refused at the last Kta", &mut |_| l.decode(&k_ta));
