@@ -1,3 +1,5 @@
+-- `util::narrowed` meets its contract: the two tests are the range of 16 bits.
+-- Assumes nothing.
 use mathlib.Core.Path.{_≡_, sym, ap, _∙_, subst}
 use mathlib.Core.Bool.{true}
 use lib.IntN.{ℤ}

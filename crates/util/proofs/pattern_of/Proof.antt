@@ -1,4 +1,4 @@
--- `store::pattern` meets its contract.
+-- `util::pattern_of` meets its contract: the bits turned over twice are the bits.
 -- Assumes nothing.
 use native.Mathlib.Omega.{arith}
 use borrow.Author.Tests.{ltb-true}

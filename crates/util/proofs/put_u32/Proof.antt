@@ -1,4 +1,4 @@
--- `store::put_u32` meets its contract.
+-- `util::put_u32` meets its contract: four stores, one after the other, are one piece.
 -- Assumes nothing.
 use borrow.Author.Needs.{needs}
 use native.Mathlib.Omega.{arith}

@@ -1,3 +1,5 @@
+-- `util::sum` meets its contract: two 16-bit numbers add up within 32 bits.
+-- Assumes nothing.
 use mathlib.Core.Path.{_∙_}
 use mir.Facts.{toZ-ofZ}
 use Rattle.util.proofs.Whole.{wide, widens, sum-fits}

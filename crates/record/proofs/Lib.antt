@@ -1,0 +1,5 @@
+pub mod Masks
+pub mod Numbers
+pub mod Agreement
+pub mod Differences
+pub mod Interleave
