@@ -2,7 +2,7 @@
 // a gathering keeps a value and a mark for each word, and is decoded as an image is once every word is held.
 ghost use mathlib.Core.Path.{_≡_};
 ghost use mathlib.Core.List.{_∷_, [], _++_};
-ghost use Prim.Native.Nat.{ℕ, _≤_, _+_};
+ghost use Prim.Native.Nat.{ℕ, _≤_, _<_, _+_};
 ghost use lib.ListN.{length};
 ghost use Rattle.gathering.specs.Cells.{cellOf, joined, valueOf, markOf, marked, markNumber, markedAs};
 ghost use Rattle.gathering.specs.Blocks.{readBlock, Inside, carriedAt};
@@ -145,9 +145,10 @@ fn read_block(block: &[u8]) -> Block
 
 // How many marks are read as this one.
 fn count_marked(marks: &[u8], mark: u8) -> usize
+    requires { ⌜ length (now marks) < 65536 ⌝ }
     ensures { λ r. ⌜ r ≡ count (length (now (marks .entry))) (markedAs mark (now (marks .entry))) ⌝ }
 {
-    let mut n: usize = 0;
+    let mut n: u16 = 0;
     let mut w: usize = 0;
     while w < marks.len() {
         if read_mark(marks[w]) == mark {
@@ -155,7 +156,7 @@ fn count_marked(marks: &[u8], mark: u8) -> usize
         }
         w += 1;
     }
-    n
+    n as usize
 }
 
 // The lowest place of a mark that is read as this one, or the number of marks.
