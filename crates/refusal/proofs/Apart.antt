@@ -2,9 +2,11 @@
 -- Assumes nothing.
 use mathlib.Core.Path.{_≡_, refl, sym, ap, _∙_}
 use mathlib.Core.List.{List, [], _∷_}
+use mathlib.Core.Bool.{Bool, true, false}
 use Prim.Native.Nat.{ℕ}
+use native.Mathlib.Omega.{arith}
 use lib.ListN.{getD}
-use Rattle.refusal.specs.Code.{codeOf}
+use Rattle.refusal.specs.Code.{codeOf, acceptedBy}
 use Rattle.refusal.specs.declared.Code.{Code}
 use Rattle.refusal.specs.declared.Table.{Table}
 use Rattle.refusal.specs.declared.Table.the-variants.{Offset, Alpha, Kta}
@@ -47,3 +49,21 @@ back SelectorAbove = refl
 
 pub codes-apart : (r s : Refusal) → codeOf r ≡ codeOf s → r ≡ s
 codes-apart r s e = sym (back r) ∙ (ap refusalFrom e ∙ back s)
+
+-- a call was accepted exactly where there is no refusal
+pub accepted-none : (r : Refusal) → acceptedBy r ≡ true → r ≡ None
+accepted-none None e = refl
+accepted-none ImageShort e = cc
+accepted-none TableShort e = cc
+accepted-none (Term t p) e = cc
+accepted-none (Sum t p) e = cc
+accepted-none BlockSize e = cc
+accepted-none BlockLength e = cc
+accepted-none BlockVersion e = cc
+accepted-none BlockRange e = cc
+accepted-none (Conflict w) e = cc
+accepted-none (Missing w) e = cc
+accepted-none PastEnd e = cc
+accepted-none RangePast e = cc
+accepted-none ResolutionAbove e = cc
+accepted-none SelectorAbove e = cc

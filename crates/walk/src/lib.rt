@@ -1,0 +1,164 @@
+// The walk over an image's words that finds the first term or running sum outside 16 bits.
+use refusal::Refusal;
+use refusal::Table;
+use refusal::accepted;
+use util::Narrow;
+use util::i16_from_bits;
+use util::narrowed;
+use util::sum;
+use util::term;
+ghost use mathlib.Core.Path.{_≡_};
+ghost use Prim.Native.Nat.{_+_, _<_, _≤_};
+ghost use Rattle.util.specs.Words.{listed, field};
+ghost use Rattle.walk.specs.Parts.{nibble, ktaAverage};
+ghost use Rattle.walk.specs.Walk.{walk, tableSteps, firstOutside};
+ghost use Rattle.walk.specs.Running.{addedOf, nextOf, besideOf, lastOf, bulkOf, pixelOf, orElse};
+
+// A pixel's running sum, or the fault that it ran into.
+pub enum Running {
+    At(i16),
+    Term,
+    Sum,
+}
+
+// The running sum with a term added to it; the term is tested first, then the sum.
+fn added(acc: i16, f: i16, scales: u16, low: u32) -> Running
+    ensures { λ r. ⌜ r ≡ addedOf acc f (field scales low 4) ⌝ }
+{
+    let narrow_term = narrowed(term(f, scales, low));
+    match narrow_term {
+        Narrow::Outside => Running::Term,
+        Narrow::Fits(t) => {
+            let narrow_sum = narrowed(sum(acc, t));
+            match narrow_sum {
+                Narrow::Outside => Running::Sum,
+                Narrow::Fits(s) => Running::At(s),
+            }
+        }
+    }
+}
+
+// The same past an earlier fault.
+fn next(s: Running, f: i16, scales: u16, low: u32) -> Running
+    ensures { λ r. ⌜ r ≡ nextOf s f (field scales low 4) ⌝ }
+{
+    match s {
+        Running::At(acc) => added(acc, f, scales, low),
+        Running::Term => Running::Term,
+        Running::Sum => Running::Sum,
+    }
+}
+
+// The running sum where a term fits that is not added to it.
+fn beside(acc: i16, f: i16, scales: u16, low: u32) -> Running
+    ensures { λ r. ⌜ r ≡ besideOf acc f (field scales low 4) ⌝ }
+{
+    let narrow_term = narrowed(term(f, scales, low));
+    match narrow_term {
+        Narrow::Outside => Running::Term,
+        Narrow::Fits(_) => Running::At(acc),
+    }
+}
+
+// The same past an earlier fault.
+fn last(s: Running, f: i16, scales: u16, low: u32) -> Running
+    ensures { λ r. ⌜ r ≡ lastOf s f (field scales low 4) ⌝ }
+{
+    match s {
+        Running::At(acc) => beside(acc, f, scales, low),
+        Running::Term => Running::Term,
+        Running::Sum => Running::Sum,
+    }
+}
+
+// Signed nibble k of the words from first on.
+pub fn nibble_at(words: &[u16; 832], first: usize, k: usize) -> i16
+    requires { ⌜ (first < 800) × (k < 32) ⌝ }
+    ensures { λ r. ⌜ r ≡ nibble (listed (now (words .entry))) first k ⌝ }
+{
+    i16_from_bits(words[first + k / 4], 4 * (k % 4) as u32, 4)
+}
+
+// The Kta average of pixel p, in chessboard order.
+pub fn k_ta_average(words: &[u16; 832], p: usize) -> i16
+    ensures { λ r. ⌜ r ≡ ktaAverage (listed (now (words .entry))) p ⌝ }
+{
+    let order = p / 32 % 2 + 2 * (p % 32 % 2);
+    i16_from_bits(words[0x36 + order / 2], 8 * (1 - order % 2) as u32, 8)
+}
+
+// The average with the row's and the column's term.
+fn bulk(words: &[u16; 832], base: usize, p: usize) -> Running
+    requires { ⌜ (base ≤ 32) × (p < 768) ⌝ }
+    ensures { λ r. ⌜ r ≡ bulkOf (listed (now (words .entry))) base p ⌝ }
+{
+    let scales = words[base];
+    let start = Running::At(i16_from_bits(words[base + 1], 0, 16));
+    let row = next(start, nibble_at(words, base + 2, p / 32), scales, 8);
+    next(row, nibble_at(words, base + 8, p % 32), scales, 4)
+}
+
+// All steps of pixel p of a table.
+fn pixel(words: &[u16; 832], table: Table, p: usize) -> Running
+    requires { ⌜ p < 768 ⌝ }
+    ensures { λ r. ⌜ r ≡ pixelOf (listed (now (words .entry))) table p ⌝ }
+{
+    let own = words[0x40 + p];
+    match table {
+        Table::Offset => next(
+            bulk(words, 0x10, p),
+            i16_from_bits(own, 10, 6),
+            words[0x10],
+            0,
+        ),
+        Table::Alpha => last(
+            bulk(words, 0x20, p),
+            i16_from_bits(own, 4, 6),
+            words[0x20],
+            0,
+        ),
+        Table::Kta => next(
+            Running::At(k_ta_average(words, p)),
+            i16_from_bits(own, 1, 3),
+            words[0x38],
+            0,
+        ),
+    }
+}
+
+// The first fault of a table.
+fn table_refusal(words: &[u16; 832], table: Table) -> Refusal
+    ensures { λ r. ⌜ r ≡ firstOutside (tableSteps (listed (now (words .entry))) table) ⌝ }
+{
+    let mut p = 0;
+    while p < 768 {
+        let s = pixel(words, table, p);
+        match s {
+            Running::At(_) => {}
+            Running::Term => return Refusal::Term(table, p),
+            Running::Sum => return Refusal::Sum(table, p),
+        }
+        p += 1;
+    }
+    Refusal::None
+}
+
+// An earlier table's fault, or else the first fault of this one.
+fn or_else(earlier: Refusal, words: &[u16; 832], table: Table) -> Refusal
+    ensures { λ r. ⌜ r ≡ orElse earlier (firstOutside (tableSteps (listed (now (words .entry))) table)) ⌝ }
+{
+    if accepted(earlier) {
+        table_refusal(words, table)
+    } else {
+        earlier
+    }
+}
+
+// The first fault of the walk: offset table, then alpha, then Kta.
+pub fn first_refusal(words: &[u16; 832]) -> Refusal
+    ensures { λ r. ⌜ r ≡ firstOutside (walk (listed (now (words .entry)))) ⌝ }
+{
+    let offset = table_refusal(words, Table::Offset);
+    let alpha = or_else(offset, words, Table::Alpha);
+    or_else(alpha, words, Table::Kta)
+}
