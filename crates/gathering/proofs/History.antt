@@ -6,7 +6,7 @@ use mathlib.Core.List.{List, [], _∷_, _++_, List·Memᴰ, List·Memᴰ·head, 
 use mathlib.Core.Logic.{⊎-elim}
 use Rattle.gathering.specs.Cells.{Cell, missing, joined}
 use Rattle.gathering.specs.Blocks.{readBlock, carriedIn, carriedBy}
-use Rattle.gathering.specs.State.{cellAt, stateFrom, freshState, merged, accepted, acceptedAs}
+use Rattle.gathering.specs.State.{cellAt, stateFrom, freshState, merged, accepted, stateAfter}
 use Rattle.gathering.specs.History.{History, Carried, Rule, StateOf}
 use Rattle.gathering.specs.declared.Block.{Block}
 use Rattle.gathering.specs.declared.Block.the-variants.{Words, Refused}
@@ -41,7 +41,7 @@ with-block h b w c r =
     rule-same (h ++ (b ∷ [])) (b ∷ h) w (λ v. moved (to-front h b)) (λ v. moved (to-end h b)) (joined c (carriedBy b w))
     (rule-joined h (b ∷ []) w c (carriedBy b w) r (rule-one b w))
 
-accept-as : (h : History) (g : Gathering) (b : List ℕ) (k : Block) → readBlock b ≡ k → StateOf h g → StateOf (b ∷ h) (acceptedAs k g b .gathering)
+accept-as : (h : History) (g : Gathering) (b : List ℕ) (k : Block) → readBlock b ≡ k → StateOf h g → StateOf (b ∷ h) (stateAfter k g b)
 accept-as h g b (Words first count) e s =
     built (b ∷ h) (λ w. joined (cellAt g w) (carriedIn (Words first count) b w))
     (λ w l. subst (λ (k : Block). Rule (b ∷ h) w (joined (cellAt g w) (carriedIn k b w))) e (with-block h b w (cellAt g w) (s .rule w l)))

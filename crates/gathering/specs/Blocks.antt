@@ -8,7 +8,7 @@ use lib.Dec.{eqb, leb, ltb}
 use lib.ListN.{length, getD, drop}
 use Rattle.util.specs.Words.{wordAt}
 use Rattle.refusal.specs.declared.Refusal.{Refusal}
-use Rattle.refusal.specs.declared.Refusal.the-variants.{BlockSize, BlockLength, BlockVersion, BlockRange}
+use Rattle.refusal.specs.declared.Refusal.the-variants.{None, BlockSize, BlockLength, BlockVersion, BlockRange}
 use Rattle.gathering.specs.Cells.{Cell, missing, held}
 use Rattle.gathering.specs.declared.Block.{Block}
 use Rattle.gathering.specs.declared.Block.the-variants.{Words, Refused}
@@ -50,6 +50,13 @@ readBlock b =
     (cond (versionWrong b) (Refused BlockVersion)
     (cond (rangeWrong b) (Refused BlockRange)
     (Words (firstOf b) (countOf b)))))
+
+abbrev pub refusalIn : Block → Refusal
+refusalIn (Words first count) = None
+refusalIn (Refused why) = why
+
+abbrev pub refusalOf : List ℕ → Refusal
+refusalOf b = refusalIn (readBlock b)
 
 -- what `count` words from `first` on, behind the first word's number in a body, say of word w
 abbrev pub carriedAt : List ℕ → ℕ → ℕ → ℕ → Cell

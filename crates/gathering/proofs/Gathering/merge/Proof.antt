@@ -26,7 +26,7 @@ abbrev μ-loop : tie.MeasureT-loop
 μ-loop other g₀ w₀ g w = 832 - w
 
 loop-holds : tie.Need-loop-holds Inv-loop μ-loop
-loop-holds c = (omega arith, sym (partly-none (both (c .args .self) (c .args .t2)) (c .args .self)))
+loop-holds c = (omega arith, partly-none (both (c .args .self) (c .args .t2)) (c .args .self))
 
 loop-again : tie.Need-loop-again Inv-loop μ-loop
 loop-again c =
@@ -36,7 +36,7 @@ loop-again c =
     let w = at .loop .w in
     let turn = ap (λ (a : Cell). joined a (cellAt (p .t2) w)) (partly-read f (p .self) w (at .loop .g) (at .loop .inv .1)) in (
       omega arith,
-      partly-step f (p .self) w (at .loop .g) (at .loop .inv .1) (c .joined-value .result) (c .before .joined-mark .result)
+      partly-step f (p .self) w (at .loop .g) (at .loop .inv .1) (search needs) (search needs) (c .joined-value .result) (c .before .joined-mark .result)
           (c .joined-value .ensures (getD (p .t2 .marks) w 0) (c .before .joined-mark .ensures) ∙ ap valueOf turn)
           (c .before .joined-mark .ensures ∙ ap markOf turn),
     )
