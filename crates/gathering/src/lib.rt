@@ -98,13 +98,7 @@ fn joined_mark(v: u16, m: u8, u: u16, n: u8) -> u8
     if n == 0 {
         return read_mark(m);
     }
-    if m != 1 {
-        return 2;
-    }
-    if n != 1 {
-        return 2;
-    }
-    if v == u { 1 } else { 2 }
+    if m == 1 && n == 1 && v == u { 1 } else { 2 }
 }
 
 // The value beside that mark.
@@ -122,11 +116,8 @@ fn read_block(block: &[u8]) -> Block
     ensures { λ r. ⌜ r ≡ readBlock (now (block .entry)) ⌝ }
     ensures { λ r. ⌜ Inside (now (block .entry)) r ⌝ }
 {
-    if block.len() < 2 {
-        return Block::Refused(Refusal::BlockSize);
-    }
     let l = util::word(block, 0) as usize;
-    if block.len() != l + 2 {
+    if block.len() < 2 || block.len() != l + 2 {
         return Block::Refused(Refusal::BlockSize);
     }
     if l < 5 || 131 < l || l % 2 == 0 {
