@@ -1,0 +1,216 @@
+/* The header compiled and every function of the archive called, from C and from C++. Says what failed; exit status 1 then. */
+#include <stdio.h>
+#include <string.h>
+
+#include "mofuleka.h"
+
+static int failed;
+
+static void check(int good, const char *what, int line) {
+  if (!good) {
+    printf("test.c:%d: %s\n", line, what);
+    failed = 1;
+  }
+}
+#define CHECK(what) check((what), #what, __LINE__)
+
+static uint8_t image[1664 + 8];
+static uint8_t offset[1536 + 8], alpha[3072 + 8], k_ta[3072 + 8], record[122 + 8];
+static uint8_t gathering[2496 + 8], other[2496 + 8];
+
+static void set(unsigned address, unsigned word) {
+  image[2 * (address - 0x2400)] = (uint8_t)(word >> 8);
+  image[2 * (address - 0x2400) + 1] = (uint8_t)word;
+}
+
+static void fill(void) {
+  memset(offset, 0x5A, sizeof offset);
+  memset(alpha, 0x5A, sizeof alpha);
+  memset(k_ta, 0x5A, sizeof k_ta);
+  memset(record, 0x5A, sizeof record);
+}
+
+/* Whether every byte from some place on is as filled. */
+static int kept(const uint8_t *bytes, size_t from, size_t size) {
+  for (; from < size; from++)
+    if (bytes[from] != 0x5A) return 0;
+  return 1;
+}
+
+static int nothing_written(void) {
+  return kept(offset, 0, sizeof offset) && kept(alpha, 0, sizeof alpha) && kept(k_ta, 0, sizeof k_ta) &&
+         kept(record, 0, sizeof record);
+}
+
+static mofuleka_answer decode(size_t len) {
+  return mofuleka_from_data(image, len, offset, 1536, alpha, 3072, k_ta, 3072, record, 122);
+}
+
+static void sizes(void) {
+  CHECK(mofuleka_image_bytes() == 1664);
+  CHECK(mofuleka_offset_table_bytes() == 1536);
+  CHECK(mofuleka_alpha_table_bytes() == 3072);
+  CHECK(mofuleka_k_ta_table_bytes() == 3072);
+  CHECK(mofuleka_record_bytes() == 122);
+  CHECK(mofuleka_gathering_bytes() == 2496);
+}
+
+static void decoding(void) {
+  mofuleka_answer a;
+  memset(image, 0, sizeof image);
+  fill();
+  CHECK(mofuleka_number(decode(0)) == MOFULEKA_SHORT_IMAGE);
+  CHECK(mofuleka_number(decode(1663)) == MOFULEKA_SHORT_IMAGE);
+  CHECK(nothing_written());
+  a = mofuleka_from_data(image, 1664, offset, 1535, alpha, 3072, k_ta, 3072, record, 122);
+  CHECK(mofuleka_number(a) == MOFULEKA_SHORT_SLICE && nothing_written());
+  a = mofuleka_from_data(image, 1664, offset, 1536, alpha, 3071, k_ta, 3072, record, 122);
+  CHECK(mofuleka_number(a) == MOFULEKA_SHORT_SLICE && nothing_written());
+  a = mofuleka_from_data(image, 1664, offset, 1536, alpha, 3072, k_ta, 0, record, 122);
+  CHECK(mofuleka_number(a) == MOFULEKA_SHORT_SLICE && nothing_written());
+  a = mofuleka_from_data(image, 1664, offset, 1536, alpha, 3072, k_ta, 3072, record, 121);
+  CHECK(mofuleka_number(a) == MOFULEKA_SHORT_SLICE && nothing_written());
+
+  /* Over-long slices: their ends keep their content. */
+  set(0x2433, 0x9D68);
+  set(0x2435, 0x0841);
+  set(0x2434, 0x1234);
+  set(0x2439, 0x0046);
+  set(0x243A, 0xFBB5);
+  set(0x243C, 0x0080);
+  set(0x2411, 0xFFC9);
+  set(0x2420, 0x7000);
+  set(0x2421, 0x2000);
+  set(0x2436, 0x0500);
+  a = mofuleka_from_data(image, sizeof image, offset, sizeof offset, alpha, sizeof alpha, k_ta, sizeof k_ta, record,
+                         sizeof record);
+  CHECK(a == MOFULEKA_ACCEPTED && !mofuleka_refused(a));
+  CHECK(kept(offset, 1536, sizeof offset) && kept(alpha, 3072, sizeof alpha));
+  CHECK(kept(k_ta, 3072, sizeof k_ta) && kept(record, 122, sizeof record));
+  CHECK(mofuleka_read_i16(record) == -3168 && mofuleka_read_i16(record + 2) == -13056);
+  CHECK(mofuleka_read_i16(offset) == -55 && mofuleka_read_i16(offset + 1534) == -55);
+  CHECK(mofuleka_read_f32(alpha) == 8192.0f / 137438953472.0f);
+  CHECK(mofuleka_read_f32(k_ta) == 5.0f / 256.0f);
+  CHECK(mofuleka_read_u16(record + 29) == 0xFFD8);
+  CHECK(record[89] == 1 && mofuleka_read_f32(record + 90) == -4.0f);
+
+  /* Questions over the record. */
+  CHECK(mofuleka_value_f32(mofuleka_k_v_pixel(record, 122, 33)) == 4.0f);
+  CHECK(mofuleka_number(mofuleka_k_v_pixel(record, 122, 768)) == MOFULEKA_PAST_THE_END);
+  CHECK(mofuleka_number(mofuleka_k_v_pixel(record, 121, 0)) == MOFULEKA_SHORT_SLICE);
+  a = mofuleka_interleave_correction_pixel(record, 122, MOFULEKA_INTERLEAVE, 3);
+  CHECK(mofuleka_present(a) && mofuleka_value_f32(a) == -0.625f);
+  a = mofuleka_interleave_correction_pixel(record, 122, MOFULEKA_CHESS, 3);
+  CHECK(!mofuleka_refused(a) && !mofuleka_present(a));
+  CHECK(mofuleka_number(mofuleka_interleave_correction_pixel(record, 0, 2, 768)) == MOFULEKA_PATTERN_OR_SUBPAGE);
+  CHECK(mofuleka_number(mofuleka_interleave_correction_pixel(record, 0, 1, 768)) == MOFULEKA_PAST_THE_END);
+  CHECK(mofuleka_number(mofuleka_interleave_correction_pixel(record, 0, 1, 767)) == MOFULEKA_SHORT_SLICE);
+  a = mofuleka_interleave_correction_cp(record, 122, MOFULEKA_INTERLEAVE, MOFULEKA_ONE);
+  CHECK(mofuleka_present(a) && mofuleka_value_f32(a) == 0.0625f);
+  CHECK(!mofuleka_present(mofuleka_interleave_correction_cp(record, 122, MOFULEKA_INTERLEAVE, MOFULEKA_ZERO)));
+  CHECK(mofuleka_number(mofuleka_interleave_correction_cp(record, 122, 0, 2)) == MOFULEKA_PATTERN_OR_SUBPAGE);
+  CHECK(mofuleka_value_f32(mofuleka_alpha_cp(record, 122, MOFULEKA_ZERO)) == 70.0f / 17179869184.0f);
+  CHECK(mofuleka_number(mofuleka_alpha_cp(record, 122, 2)) == MOFULEKA_PATTERN_OR_SUBPAGE);
+  CHECK(mofuleka_value_i16(mofuleka_offset_reference_cp(record, 122, MOFULEKA_ZERO)) == -75);
+  CHECK(mofuleka_value_i16(mofuleka_offset_reference_cp(record, 122, MOFULEKA_ONE)) == -77);
+  CHECK(mofuleka_number(mofuleka_offset_reference_cp(record, 121, MOFULEKA_ONE)) == MOFULEKA_SHORT_SLICE);
+
+  /* A refused image: number, table, place, and nothing written. */
+  memset(image, 0, sizeof image);
+  set(0x2411, 0x7FFF);
+  set(0x2413, 0x0010);
+  fill();
+  a = decode(1664);
+  CHECK(mofuleka_number(a) == MOFULEKA_SUM && mofuleka_table(a) == 0 && mofuleka_place(a) == 160);
+  memset(image, 0, sizeof image);
+  set(0x2438, 0x000F);
+  set(0x273F, 0x0002);
+  a = decode(1664);
+  CHECK(mofuleka_number(a) == MOFULEKA_TERM && mofuleka_table(a) == 2 && mofuleka_place(a) == 767);
+  CHECK(nothing_written());
+}
+
+static void gatherings(void) {
+  static const uint8_t last[] = {0x00, 0x05, 0x01, 0x03, 0x3F, 0xAB, 0xCD};
+  static const uint8_t beyond[] = {0x00, 0x07, 0x01, 0x03, 0x3F, 0x12, 0x34, 0x56, 0x78};
+  static const uint8_t version[] = {0x00, 0x05, 0x02, 0x00, 0x00, 0x00, 0x00};
+  static const uint8_t even[] = {0x00, 0x06, 0x01, 0x00, 0x00, 0x00, 0x00, 0x00};
+  uint8_t block[5 + 128];
+  mofuleka_answer a;
+  unsigned first;
+  memset(gathering, 0x5A, sizeof gathering);
+  CHECK(mofuleka_number(mofuleka_gathering_fresh(gathering, 2495)) == MOFULEKA_SHORT_SLICE);
+  CHECK(kept(gathering, 0, sizeof gathering));
+  CHECK(mofuleka_gathering_fresh(gathering, sizeof gathering) == MOFULEKA_ACCEPTED);
+  CHECK(kept(gathering, 2496, sizeof gathering));
+  a = mofuleka_gathering_status(gathering, 2496);
+  CHECK(mofuleka_status_missing(a) == 832 && mofuleka_status_in_conflict(a) == 0);
+  CHECK(mofuleka_number(mofuleka_gathering_status(gathering, 0)) == MOFULEKA_SHORT_SLICE);
+  CHECK(mofuleka_number(mofuleka_gathering_accept(gathering, 2496, last, 0)) == MOFULEKA_BLOCK_LENGTH);
+  CHECK(mofuleka_number(mofuleka_gathering_accept(gathering, 2496, even, sizeof even)) == MOFULEKA_BLOCK_COUNT);
+  CHECK(mofuleka_number(mofuleka_gathering_accept(gathering, 2496, version, sizeof version)) == MOFULEKA_BLOCK_VERSION);
+  CHECK(mofuleka_number(mofuleka_gathering_accept(gathering, 2496, beyond, sizeof beyond)) == MOFULEKA_BLOCK_RANGE);
+  CHECK(mofuleka_number(mofuleka_gathering_accept(gathering, 2495, last, sizeof last)) == MOFULEKA_SHORT_SLICE);
+  CHECK(mofuleka_gathering_accept(gathering, 2496, last, sizeof last) == MOFULEKA_ACCEPTED);
+  a = mofuleka_gathering_word(gathering, 2496, 831);
+  CHECK(mofuleka_word_mark(a) == MOFULEKA_HELD && mofuleka_word_value(a) == 0xABCD);
+  a = mofuleka_gathering_word(gathering, 2496, 830);
+  CHECK(mofuleka_word_mark(a) == MOFULEKA_MISSING && mofuleka_word_value(a) == 0);
+  CHECK(mofuleka_number(mofuleka_gathering_word(gathering, 0, 832)) == MOFULEKA_PAST_THE_END);
+  CHECK(mofuleka_number(mofuleka_gathering_word(gathering, 0, 831)) == MOFULEKA_SHORT_SLICE);
+  fill();
+  a = mofuleka_gathering_from_data(gathering, 2496, offset, 0, alpha, 0, k_ta, 0, record, 0);
+  CHECK(mofuleka_number(a) == MOFULEKA_WORD_MISSING && mofuleka_place(a) == 0);
+
+  /* A full one: the zero image. Merged with the first it has one word in conflict. */
+  CHECK(mofuleka_gathering_fresh(other, 2496) == MOFULEKA_ACCEPTED);
+  for (first = 0; first < 832; first += 64) {
+    memset(block, 0, sizeof block);
+    block[1] = 131;
+    block[2] = 1;
+    block[3] = (uint8_t)(first >> 8);
+    block[4] = (uint8_t)first;
+    CHECK(mofuleka_gathering_accept(other, 2496, block, sizeof block) == MOFULEKA_ACCEPTED);
+  }
+  a = mofuleka_gathering_from_data(other, 2496, offset, 1536, alpha, 3072, k_ta, 3072, record, 122);
+  CHECK(a == MOFULEKA_ACCEPTED && mofuleka_read_i16(record + 2) == -16384);
+  a = mofuleka_gathering_from_data(other, 2496, offset, 1536, alpha, 3072, k_ta, 3071, record, 122);
+  CHECK(mofuleka_number(a) == MOFULEKA_SHORT_SLICE);
+  CHECK(mofuleka_number(mofuleka_gathering_merge(other, 2496, gathering, 2495)) == MOFULEKA_SHORT_SLICE);
+  CHECK(mofuleka_gathering_merge(other, 2496, gathering, 2496) == MOFULEKA_ACCEPTED);
+  a = mofuleka_gathering_status(other, 2496);
+  CHECK(mofuleka_status_missing(a) == 0 && mofuleka_status_in_conflict(a) == 1);
+  a = mofuleka_gathering_from_data(other, 2496, offset, 1536, alpha, 3072, k_ta, 3072, record, 122);
+  CHECK(mofuleka_number(a) == MOFULEKA_WORD_IN_CONFLICT && mofuleka_place(a) == 831);
+}
+
+static void camera(void) {
+  mofuleka_answer a;
+  CHECK(mofuleka_value(mofuleka_pixel_in_subpage(MOFULEKA_CHESS, MOFULEKA_ONE, 1)) == 1);
+  CHECK(mofuleka_value(mofuleka_pixel_in_subpage(MOFULEKA_INTERLEAVE, MOFULEKA_ONE, 1)) == 0);
+  CHECK(mofuleka_number(mofuleka_pixel_in_subpage(0, 0, 768)) == MOFULEKA_PAST_THE_END);
+  CHECK(mofuleka_number(mofuleka_pixel_in_subpage(2, 0, 768)) == MOFULEKA_PATTERN_OR_SUBPAGE);
+  CHECK(mofuleka_value(mofuleka_pixel_range_count(MOFULEKA_CHESS)) == 1);
+  CHECK(mofuleka_value(mofuleka_pixel_range_count(MOFULEKA_INTERLEAVE)) == 12);
+  CHECK(mofuleka_number(mofuleka_pixel_range_count(2)) == MOFULEKA_PATTERN_OR_SUBPAGE);
+  a = mofuleka_pixel_range(MOFULEKA_INTERLEAVE, MOFULEKA_ONE, 11);
+  CHECK(mofuleka_range_address(a) == 0x06E0 && mofuleka_range_offset(a) == 1472 && mofuleka_range_length(a) == 64);
+  a = mofuleka_pixel_range(MOFULEKA_CHESS, MOFULEKA_ONE, 0);
+  CHECK(mofuleka_range_address(a) == 0x0400 && mofuleka_range_offset(a) == 0 && mofuleka_range_length(a) == 1536);
+  CHECK(mofuleka_number(mofuleka_pixel_range(0, 0, 12)) == MOFULEKA_RANGE_NUMBER);
+  CHECK(mofuleka_number(mofuleka_pixel_range(0, 2, 12)) == MOFULEKA_PATTERN_OR_SUBPAGE);
+  CHECK(mofuleka_value(mofuleka_compensation_pixel(MOFULEKA_ZERO)) == 0x0708);
+  CHECK(mofuleka_value(mofuleka_compensation_pixel(MOFULEKA_ONE)) == 0x0728);
+  CHECK(mofuleka_number(mofuleka_compensation_pixel(2)) == MOFULEKA_PATTERN_OR_SUBPAGE);
+  CHECK(mofuleka_value_f32(mofuleka_resolution_correction(0, 15)) == 1.0f / 32768.0f);
+  CHECK(mofuleka_number(mofuleka_resolution_correction(16, 0)) == MOFULEKA_RESOLUTION);
+}
+
+int main(void) {
+  sizes();
+  decoding();
+  gatherings();
+  camera();
+  if (!failed) printf("the C interface answers as declared\n");
+  return failed;
+}

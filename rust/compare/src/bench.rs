@@ -1,0 +1,227 @@
+//! bench [ROUNDS]: this library and the original crate (release build) side by side in one run.
+//!
+//! Every case alternates, round by round, with the crate's `from_data` on the lifelike image. Printed are the best time of a
+//! call, the ratio of the two best times, and the smallest and largest ratio of a single round. Before it is timed, each
+//! case's answer is held to what it must be.
+use std::env;
+use std::time::Instant;
+
+use compare::images;
+use compare::judge::{Judge, Release};
+use mlx9064x_release::CalibrationData;
+use mofuleka::{lent, Calibration, Gathering};
+
+struct Lent {
+    offset: [u8; 1536],
+    alpha: [u8; 3072],
+    k_ta: [u8; 3072],
+    record: [u8; 122],
+}
+
+impl Lent {
+    fn new() -> Self {
+        Self { offset: [0; 1536], alpha: [0; 3072], k_ta: [0; 3072], record: [0; 122] }
+    }
+
+    fn decode(&mut self, image: &[u8]) -> u64 {
+        match lent::from_data(image, &mut self.offset, &mut self.alpha, &mut self.k_ta, &mut self.record) {
+            Ok(()) => u64::from(self.record[0]),
+            Err(refusal) => u64::from(refusal.number()),
+        }
+    }
+
+    fn gathered(&mut self, gathering: &[u8]) -> u64 {
+        match lent::gathering_from_data(gathering, &mut self.offset, &mut self.alpha, &mut self.k_ta, &mut self.record) {
+            Ok(()) => u64::from(self.record[0]),
+            Err(refusal) => u64::from(refusal.number()),
+        }
+    }
+}
+
+/// What a case must answer: accepted with the crate's numbers, or a refusal.
+fn refused(image: &[u8]) -> (u8, u8, usize) {
+    match Calibration::from_data(image) {
+        Ok(_) => (0, 0, 0),
+        Err(refusal) => (refusal.number(), refusal.table(), refusal.place()),
+    }
+}
+
+fn crate_decodes(image: &[u8]) -> u64 {
+    match mlx9064x_release::mlx90640::Mlx90640Calibration::from_data(image) {
+        Ok(calibration) => calibration.k_v_dd() as u64,
+        Err(_) => 1,
+    }
+}
+
+/// Nanoseconds of one call, over some calls.
+fn time(calls: u64, sink: &mut u64, mut call: impl FnMut(u64) -> u64) -> f64 {
+    let start = Instant::now();
+    for i in 0..calls {
+        *sink = sink.wrapping_add(call(i));
+    }
+    start.elapsed().as_nanos() as f64 / calls as f64
+}
+
+struct Line {
+    best: f64,
+    ratio: f64,
+    low: f64,
+    high: f64,
+}
+
+/// A case against the crate's decoding of the same round.
+fn against(
+    rounds: usize,
+    base: &mut dyn FnMut(u64) -> u64,
+    case: &mut dyn FnMut(u64) -> u64,
+    sink: &mut u64,
+) -> (f64, Line) {
+    let calls = |once: f64| ((3_000_000.0 / once.max(1.0)) as u64).max(10);
+    // A first round, not counted, finds out how many calls fill three milliseconds.
+    let (base_calls, case_calls) = (calls(time(50, sink, &mut *base)), calls(time(200, sink, &mut *case)));
+    let mut bests = (f64::INFINITY, f64::INFINITY);
+    let (mut low, mut high) = (f64::INFINITY, 0f64);
+    for _ in 0..rounds {
+        let theirs = time(base_calls, sink, &mut *base);
+        let ours = time(case_calls, sink, &mut *case);
+        bests = (bests.0.min(theirs), bests.1.min(ours));
+        low = low.min(ours / theirs);
+        high = high.max(ours / theirs);
+    }
+    (bests.0, Line { best: bests.1, ratio: bests.1 / bests.0, low, high })
+}
+
+fn main() {
+    let rounds = env::args().nth(1).and_then(|text| text.parse().ok()).unwrap_or(15);
+    let mut sink = 0;
+    let lifelike = images::lifelike(1);
+    // Accepted, but with terms that a bound from the extremes of rows, columns and remainders can't clear, in all three tables.
+    let mut past = lifelike;
+    images::set(&mut past, 0x2410, 0x4F10);
+    images::set(&mut past, 0x2420, 0x7F16);
+    for start in [0x2410, 0x2420] {
+        images::set(&mut past, start + 1, 0x0000);
+        for row in 2..8 {
+            images::set(&mut past, start + row, 0x0000);
+        }
+        // Row 1 alone, at the very limit; the columns bring it back.
+        images::set(&mut past, start + 2, 0x00F0);
+        for column in 8..16 {
+            images::set(&mut past, start + column, 0x1111);
+        }
+    }
+    images::set(&mut past, 0x2436, 0xFF54);
+    images::set(&mut past, 0x2438, 0x236D);
+    for pixel in 32..64 {
+        images::set(&mut past, 0x2440 + pixel, 0x0000);
+    }
+    let mut first = lifelike;
+    images::set(&mut first, 0x2410, 0x4F10);
+    images::set(&mut first, 0x2412, 0x0001);
+    let mut last = lifelike;
+    images::set(&mut last, 0x2410, 0x421B);
+    for address in 0x2440..0x2740 {
+        let word = images::get(&last, address) & 0x03FF;
+        images::set(&mut last, address, word);
+    }
+    let word = images::get(&last, 0x273F) | 0x4000;
+    images::set(&mut last, 0x273F, word);
+    let mut k_ta = lifelike;
+    images::set(&mut k_ta, 0x2438, 0x236F);
+    for address in 0x2440..0x2740 {
+        let word = images::get(&k_ta, address) & 0xFFF1;
+        images::set(&mut k_ta, address, word);
+    }
+    let word = images::get(&k_ta, 0x273F) | 0x0002;
+    images::set(&mut k_ta, 0x273F, word);
+    assert_eq!(refused(&lifelike), (0, 0, 0));
+    assert_eq!(refused(&past), (0, 0, 0));
+    assert_eq!(refused(&first), (3, 0, 0));
+    assert_eq!(refused(&last), (3, 0, 767));
+    assert_eq!(refused(&k_ta), (3, 2, 767));
+    for image in [&lifelike, &past] {
+        let mut l = Lent::new();
+        l.decode(image);
+        let judge = Release::decode(image).answer().expect("the crate takes it");
+        assert!(l.record == judge.record());
+        assert!(l.offset.chunks_exact(2).zip(judge.offset()).all(|(b, x)| b == x.to_be_bytes()));
+        assert!(l.alpha.chunks_exact(4).zip(judge.alpha()).all(|(b, x)| b == x.to_bits().to_be_bytes()));
+        assert!(l.k_ta.chunks_exact(4).zip(judge.k_ta()).all(|(b, x)| b == x.to_bits().to_be_bytes()));
+    }
+
+    let mut full = Gathering::new();
+    let mut blocks = Vec::new();
+    for start in (0..832usize).step_by(64) {
+        let mut block = vec![0, 131, 1, (start / 256) as u8, start as u8];
+        block.extend_from_slice(&lifelike[2 * start..2 * start + 128]);
+        full.accept(&block).expect("a good block");
+        blocks.push(block);
+    }
+    assert!(full.status().is_full());
+    let mut half = Gathering::new();
+    for block in blocks.iter().step_by(2) {
+        half.accept(block).expect("a good block");
+    }
+
+    let base_image = lifelike;
+    let mut base = |_: u64| crate_decodes(&base_image);
+    let mut l = Lent::new();
+    let mut out = Vec::new();
+    {
+        let mut case = |name: &'static str, call: &mut dyn FnMut(u64) -> u64| {
+            let (theirs, line) = against(rounds, &mut base, call, &mut sink);
+            out.push((name, theirs, line));
+        };
+        case("the crate against itself", &mut |_| crate_decodes(&lifelike));
+        case("decode, lifelike", &mut |_| l.decode(&lifelike));
+        case("decode, accepted past the bound", &mut |_| l.decode(&past));
+        case("decode, refused at the first pixel", &mut |_| l.decode(&first));
+        case("decode, refused at the last offset", &mut |_| l.decode(&last));
+        case("decode, refused at the last Kta", &mut |_| l.decode(&k_ta));
+        case("decode, refused as short", &mut |_| l.decode(&lifelike[..1663]));
+        case("Calibration::from_data, lifelike", &mut |_| {
+            Calibration::from_data(&lifelike).map(|c| c.k_v_dd() as u64).unwrap_or(0)
+        });
+        let mut lent = *Gathering::new().as_bytes();
+        case("accept of a 64-word block", &mut |i| {
+            lent::gathering_accept(&mut lent, &blocks[i as usize % 13]).map(|()| 0).unwrap_or(1)
+        });
+        let mut lent = *full.as_bytes();
+        case("merge of two gatherings", &mut |_| {
+            lent::gathering_merge(&mut lent, half.as_bytes()).map(|()| 0).unwrap_or(1)
+        });
+        case("status of a gathering", &mut |_| {
+            lent::gathering_status(full.as_bytes()).map(|(missing, _)| missing as u64).unwrap_or(1)
+        });
+        case("decode of a full gathering", &mut |_| l.gathered(full.as_bytes()));
+        let calibration = Calibration::from_data(&lifelike).expect("accepted above");
+        let record = *calibration.record();
+        case("one pixel: Kv, correction, mask", &mut |i| {
+            let pixel = i as usize % 768;
+            let k_v = lent::k_v_pixel(&record, pixel).map(f32::to_bits).unwrap_or(0);
+            let correction = lent::interleave_correction_pixel(&record, 0, pixel);
+            let mask = lent::pixel_in_subpage(1, 0, pixel).unwrap_or(false);
+            u64::from(k_v) + u64::from(mask) + u64::from(correction.ok().flatten().map(f32::to_bits).unwrap_or(0))
+        });
+        case("compensation pixel's questions", &mut |i| {
+            let subpage = i as u32 % 2;
+            let alpha = lent::alpha_cp(&record, subpage).map(f32::to_bits).unwrap_or(0);
+            let offset = lent::offset_reference_cp(&record, subpage).unwrap_or(0);
+            let correction = lent::interleave_correction_cp(&record, 0, subpage);
+            u64::from(alpha) + offset as u64 + u64::from(correction.ok().flatten().map(f32::to_bits).unwrap_or(0))
+        });
+    }
+    println!("{} rounds; the crate's from_data and each case in turn, best of all rounds", rounds);
+    println!(
+        "{:<38} {:>10} {:>10} {:>8}   {:>17}",
+        "case", "crate ns", "ns", "ratio", "ratio in a round"
+    );
+    for (name, theirs, line) in out {
+        println!(
+            "{:<38} {:>10.0} {:>10.1} {:>8.3}   {:>7.3} .. {:<7.3}",
+            name, theirs, line.best, line.ratio, line.low, line.high
+        );
+    }
+    // So that no call is without use.
+    assert!(sink != 1);
+}

@@ -1,0 +1,445 @@
+//! The entries of docs/DIFFERENCES.md, run: each row of its tables is made here from the answers, and the file must hold
+//! exactly these rows.
+use std::collections::BTreeSet;
+use std::env;
+use std::fs;
+
+use compare::images;
+use compare::judge::{outcome, Checked, Judge, Outcome, Release};
+use compare::tally::Tally;
+use mofuleka::{AccessPattern, Calibration, Mlx90640, Refusal, Subpage};
+
+struct Row {
+    image: String,
+    asked: String,
+    release: String,
+    checked: String,
+    datasheet: String,
+    ours: String,
+}
+
+impl Row {
+    fn text(&self) -> String {
+        format!(
+            "| {} | {} | {} | {} | {} | {} |",
+            self.image, self.asked, self.release, self.checked, self.datasheet, self.ours
+        )
+    }
+}
+
+pub const HEAD: &str = "| image | asked | the crate, release | the crate, overflow checks | the datasheet | ours |";
+
+/// A number that a table cell shows: a short decimal, or the whole fraction over a power of two.
+fn number(number: f64) -> String {
+    let short = format!("{}", number);
+    if short.len() <= 9 {
+        return short;
+    }
+    let (mut numerator, mut power) = (number, 0);
+    while numerator.fract() != 0.0 {
+        numerator *= 2.0;
+        power += 1;
+    }
+    while numerator % 2.0 == 0.0 {
+        numerator /= 2.0;
+        power -= 1;
+    }
+    if power > 0 {
+        format!("{} / 2^{}", numerator, power)
+    } else {
+        format!("{} x 2^{}", numerator, -power)
+    }
+}
+
+fn absent(value: Option<f32>) -> String {
+    match value {
+        None => "absent".to_string(),
+        Some(value) => number(f64::from(value)),
+    }
+}
+
+fn said<T>(outcome: Outcome<T>, show: impl FnOnce(T) -> String) -> String {
+    match outcome {
+        Outcome::Answer(answer) => show(answer),
+        Outcome::Error(text) => format!("error \"{}\"", text),
+        // The first words: what follows in some messages are lengths and type names.
+        Outcome::Panic(text) if text.starts_with("attempt to") => format!("panics \"{}\"", text),
+        Outcome::Panic(_) => "panics".to_string(),
+    }
+}
+
+fn ours<T>(answer: Result<T, Refusal>, show: impl FnOnce(T) -> String) -> String {
+    match answer {
+        Ok(answer) => show(answer),
+        Err(refusal) => match refusal.number() {
+            3 | 4 => format!("refusal {}, table {}, pixel {}", refusal.number(), refusal.table(), refusal.place()),
+            number => format!("refusal {}", number),
+        },
+    }
+}
+
+fn words(words: &[(usize, u16)]) -> String {
+    if words.is_empty() {
+        return "zero".to_string();
+    }
+    words.iter().map(|(address, word)| format!("{:04X} = {:04X}", address, word)).collect::<Vec<_>>().join(", ")
+}
+
+/// One number of a decoded image, asked of all three.
+fn field(
+    set: &[(usize, u16)],
+    asked: &str,
+    judge: impl Fn(&dyn Fields) -> String,
+    datasheet: String,
+    mine: impl Fn(&Calibration) -> String,
+) -> Row {
+    let image = images::with(set);
+    Row {
+        image: words(set),
+        asked: asked.to_string(),
+        release: said(Release::decode(&image), |answer| judge(&answer)),
+        checked: said(Checked::decode(&image), |answer| judge(&answer)),
+        datasheet,
+        ours: ours(Calibration::from_data(&image), |answer| mine(&answer)),
+    }
+}
+
+/// What is asked of either build of the original crate.
+trait Fields {
+    fn offset(&self, pixel: usize) -> String;
+    fn alpha(&self, pixel: usize) -> String;
+    fn k_ta(&self, pixel: usize) -> String;
+    fn k_v(&self, pixel: usize) -> String;
+    fn correction(&self, pixel: usize) -> String;
+    fn alpha_cp(&self) -> String;
+    fn alpha_ptat(&self) -> String;
+    fn gradient(&self) -> String;
+    fn alpha_correction(&self) -> String;
+}
+
+fn float_at(record: &[u8; 122], at: usize) -> f32 {
+    f32::from_be_bytes([record[at], record[at + 1], record[at + 2], record[at + 3]])
+}
+
+impl<J: Judge> Fields for J {
+    fn offset(&self, pixel: usize) -> String {
+        Judge::offset(self)[pixel].to_string()
+    }
+
+    fn alpha(&self, pixel: usize) -> String {
+        number(Judge::alpha(self)[pixel].into())
+    }
+
+    fn k_ta(&self, pixel: usize) -> String {
+        number(Judge::k_ta(self)[pixel].into())
+    }
+
+    fn k_v(&self, pixel: usize) -> String {
+        let mut all = Vec::new();
+        Judge::k_v(self, &mut all);
+        all.get(pixel).map(|bits| number(f32::from_bits(*bits).into())).unwrap_or_else(|| "the iterator ends".to_string())
+    }
+
+    fn correction(&self, pixel: usize) -> String {
+        let mut all = Vec::new();
+        Judge::corrections(self, 0, &mut all);
+        match all.get(pixel) {
+            Some(bits) => absent(bits.map(f32::from_bits)),
+            None => "the iterator ends".to_string(),
+        }
+    }
+
+    fn alpha_cp(&self) -> String {
+        number(f32::from_bits(Judge::alpha_cp(self, 0)).into())
+    }
+
+    fn alpha_ptat(&self) -> String {
+        number(float_at(&self.record(), 17).into())
+    }
+
+    fn gradient(&self) -> String {
+        let record = self.record();
+        absent(if record[89] == 0 { None } else { Some(float_at(&record, 90)) })
+    }
+
+    fn alpha_correction(&self) -> String {
+        Judge::alpha_correction(self).iter().map(|x| x.to_string()).collect::<Vec<_>>().join(", ")
+    }
+}
+
+fn offset(set: &[(usize, u16)], pixel: usize, datasheet: i64) -> Row {
+    field(
+        set,
+        &format!("offset of pixel {}", pixel),
+        |judge| judge.offset(pixel),
+        datasheet.to_string(),
+        |c| c.offset_reference_pixels(Subpage::Zero).nth(pixel).unwrap().to_string(),
+    )
+}
+
+fn alpha(set: &[(usize, u16)], pixel: usize, numerator: i64, exponent: i32) -> Row {
+    field(
+        set,
+        &format!("alpha of pixel {}", pixel),
+        |judge| judge.alpha(pixel),
+        number(numerator as f64 / 2f64.powi(exponent)),
+        |c| number((*c.alpha_pixels(Subpage::Zero).nth(pixel).unwrap()).into()),
+    )
+}
+
+fn k_ta(set: &[(usize, u16)], pixel: usize, numerator: i64, exponent: i32) -> Row {
+    field(
+        set,
+        &format!("Kta of pixel {}", pixel),
+        |judge| judge.k_ta(pixel),
+        number(numerator as f64 / 2f64.powi(exponent)),
+        |c| number((*c.k_ta_pixels(Subpage::Zero).nth(pixel).unwrap()).into()),
+    )
+}
+
+fn length(len: usize) -> Row {
+    let image = vec![0u8; len];
+    Row {
+        image: format!("{} zero bytes", len),
+        asked: "the decoding".to_string(),
+        release: said(Release::decode(&image), |_| "accepted".to_string()),
+        checked: said(Checked::decode(&image), |_| "accepted".to_string()),
+        datasheet: "832 words".to_string(),
+        ours: ours(Calibration::from_data(&image), |_| "accepted".to_string()),
+    }
+}
+
+fn resolution(calibrated: u8, current: u8, datasheet: &str) -> Row {
+    let show = |bits| number(f32::from_bits(bits).into());
+    Row {
+        image: "any".to_string(),
+        asked: format!("resolution correction {}, {}", calibrated, current),
+        release: said(Release::resolution_correction(calibrated, current), show),
+        checked: said(Checked::resolution_correction(calibrated, current), show),
+        datasheet: datasheet.to_string(),
+        ours: ours(Mlx90640::resolution_correction(calibrated, current), |answer| number(answer.into())),
+    }
+}
+
+/// The datasheet's correction of a pixel counted from 0, and the one that the comment's short form of IL_Pattern gives.
+fn corrections(pixel: i64, c2: f64, c3: f64) -> (f64, f64) {
+    let value = |il: i64, conversion: i64| c3 * (2 * il - 1) as f64 - c2 * conversion as f64;
+    let row = pixel / 32 % 2;
+    let conversion = ((pixel + 2) / 4 - (pixel + 3) / 4 + (pixel + 1) / 4 - pixel / 4) * (1 - 2 * row);
+    let short = (pixel % 2) * (pixel % 4 - 2) * (1 - row * 2);
+    (value(row, conversion), value(pixel % 2, short))
+}
+
+fn correction(pixel: usize) -> Row {
+    let (datasheet, comment) = corrections(pixel as i64, 0.5, 0.125);
+    field(
+        &[(0x2435, 0x0841)],
+        &format!("correction of pixel {}; by the comment's short form {}", pixel, number(comment)),
+        |judge| judge.correction(pixel),
+        number(datasheet),
+        |c| absent(c.access_pattern_compensation_pixel(pixel, AccessPattern::Interleave).unwrap()),
+    )
+}
+
+/// A list's end, which is a question past the end here.
+fn past_the_end() -> Vec<Row> {
+    let end = |answer: Option<String>| answer.unwrap_or_else(|| "the iterator ends".to_string());
+    let mut rows = Vec::new();
+    for (name, pattern, subpage) in [("Chess", 1, Subpage::Zero), ("Interleave", 0, Subpage::One)] {
+        let access = if pattern == 1 { AccessPattern::Chess } else { AccessPattern::Interleave };
+        let count = Release::ranges(pattern, 0).len();
+        let mask = |list: Vec<bool>| end(list.get(768).map(|x| x.to_string()));
+        let range = |list: Vec<String>| end(list.get(count).cloned());
+        rows.push(Row {
+            image: "any".to_string(),
+            asked: format!("whether pixel 768 is in the subpage, {}", name),
+            release: said(outcome(|| Ok(Release::mask(pattern, subpage as u32))), mask),
+            checked: said(outcome(|| Ok(Checked::mask(pattern, subpage as u32))), mask),
+            datasheet: "768 pixels".to_string(),
+            ours: ours(Mlx90640::pixel_in_subpage(subpage, access, 768), |x| x.to_string()),
+        });
+        rows.push(Row {
+            image: "any".to_string(),
+            asked: format!("range {}, {}", count, name),
+            release: said(outcome(|| Ok(Release::ranges(pattern, subpage as u32))), range),
+            checked: said(outcome(|| Ok(Checked::ranges(pattern, subpage as u32))), range),
+            datasheet: "not a matter of it".to_string(),
+            ours: ours(Mlx90640::pixel_range(subpage, access, count), |x| format!("{:?}", x)),
+        });
+    }
+    rows.push(field(
+        &[(0x2434, 0x1234)],
+        "Kv of pixel 768",
+        |judge| judge.k_v(768),
+        "768 pixels".to_string(),
+        |c| ours(c.k_v_pixel(768), |x| number(x.into())),
+    ));
+    rows.push(field(
+        &[(0x2435, 0x0841)],
+        "correction of pixel 768",
+        |judge| judge.correction(768),
+        "768 pixels".to_string(),
+        |c| ours(c.access_pattern_compensation_pixel(768, AccessPattern::Interleave), absent),
+    ));
+    rows
+}
+
+fn entries() -> Vec<(&'static str, Vec<Row>)> {
+    let alpha_words = [(0x243D, 0x9797), (0x243E, 0x9797), (0x243F, 0x2889)];
+    // 1 / (1 + KsTo1 * 40); 1; 1 + KsTo2 * CT3; that times (1 + KsTo3 * (CT4 - CT3)), with KsTo -105 / 2^17, CT 160 and 320.
+    let k_s_to = -105.0f32 / 131072.0;
+    let third = 1.0 + k_s_to * 160.0;
+    let factors = [1.0 / (1.0 + k_s_to * 40.0), 1.0, third, third * (1.0 + k_s_to * 160.0)];
+    vec![
+        (
+            "1. Short images, and the test for 831 bytes",
+            [0, 1, 830, 831, 832, 1663, 1664, 1665].iter().map(|len| length(*len)).collect(),
+        ),
+        (
+            "2. Terms outside 16 bits",
+            vec![
+                offset(&[(0x2410, 0x0F00), (0x2412, 0x0001)], 0, 32768),
+                offset(&[(0x2410, 0x0F00), (0x2412, 0x0002)], 0, 65536),
+                offset(&[(0x2410, 0x00F0), (0x2418, 0x0001)], 0, 32768),
+                offset(&[(0x2410, 0x000B), (0x2440, 0x4000)], 0, 32768),
+                alpha(&[(0x2420, 0x0F00), (0x2422, 0x0001)], 0, 32768, 30),
+                alpha(&[(0x2420, 0x000B), (0x2440, 0x0100)], 0, 32768, 30),
+                k_ta(&[(0x2438, 0x000F), (0x2440, 0x0002)], 0, 32768, 8),
+            ],
+        ),
+        (
+            "3. Sums outside 16 bits",
+            vec![
+                offset(&[(0x2411, 0x7FFF), (0x2413, 0x0010)], 160, 32768),
+                offset(&[(0x2411, 0x7FFF), (0x2412, 0x0001), (0x2418, 0x000F)], 0, 32767),
+                offset(&[(0x2411, 0x8000), (0x2440, 0xFC00)], 0, -32769),
+                alpha(&[(0x2421, 0x7FFF), (0x2422, 0x0001)], 0, 32768, 30),
+                k_ta(&[(0x2436, 0xFF00), (0x2438, 0x000D), (0x2440, 0x0008)], 0, -32769, 8),
+            ],
+        ),
+        (
+            "4. Alpha_PTAT in whole steps",
+            [(0x1000, 8.25), (0x5000, 9.25), (0xF000, 11.75), (0x4000, 9.0)]
+                .iter()
+                .map(|(word, datasheet)| {
+                    field(
+                        &[(0x2410, *word)],
+                        "alpha_ptat",
+                        |judge| judge.alpha_ptat(),
+                        number(*datasheet),
+                        |c| number(c.alpha_ptat().into()),
+                    )
+                })
+                .collect(),
+        ),
+        (
+            "5. The sign of the alpha average",
+            vec![alpha(&[(0x2421, 0x8000)], 0, 32768, 30), alpha(&[(0x2421, 0xFFFF)], 0, 65535, 30)],
+        ),
+        (
+            "6. The sign of alpha_CP_0",
+            vec![field(
+                &[(0x2439, 0x0200)],
+                "alpha_cp of subpage Zero",
+                |judge| judge.alpha_cp(),
+                format!("{} (unsure: with a sign step {})", number(2f64.powi(-18)), number(-(2f64.powi(-18)))),
+                |c| number(c.alpha_cp(Subpage::Zero).into()),
+            )],
+        ),
+        (
+            "7. The gradient at zero",
+            vec![
+                field(
+                    &[],
+                    "temperature_gradient_coefficient",
+                    |judge| judge.gradient(),
+                    "0".to_string(),
+                    |c| absent(c.temperature_gradient_coefficient()),
+                ),
+                field(
+                    &[(0x243C, 0x00FF)],
+                    "temperature_gradient_coefficient",
+                    |judge| judge.gradient(),
+                    number(-1.0 / 32.0),
+                    |c| absent(c.temperature_gradient_coefficient()),
+                ),
+            ],
+        ),
+        (
+            "8. Resolutions above 15",
+            vec![
+                resolution(15, 0, "fields of 2 bits"),
+                resolution(16, 0, "fields of 2 bits"),
+                resolution(0, 16, "fields of 2 bits"),
+                resolution(128, 0, "fields of 2 bits"),
+                resolution(128, 1, "fields of 2 bits"),
+            ],
+        ),
+        ("9. Pixels and ranges past the end", past_the_end()),
+        ("10. The comment on IL_Pattern", [0, 1, 2, 3, 32, 33].iter().map(|pixel| correction(*pixel)).collect()),
+        (
+            "11. Iterators become questions",
+            [0, 1, 32, 33]
+                .iter()
+                .map(|pixel| {
+                    let (row, column) = (pixel / 32, pixel % 32);
+                    field(
+                        &[(0x2434, 0x1234)],
+                        &format!("Kv of pixel {}", pixel),
+                        |judge| judge.k_v(*pixel),
+                        number([[1.0, 3.0], [2.0, 4.0]][row][column]),
+                        |c| ours(c.k_v_pixel(*pixel), |x| number(x.into())),
+                    )
+                })
+                .collect(),
+        ),
+        (
+            "12. alpha_correction is left out",
+            vec![field(
+                &alpha_words,
+                "alpha_correction",
+                |judge| judge.alpha_correction(),
+                factors.iter().map(|x| x.to_string()).collect::<Vec<_>>().join(", "),
+                |_| "not asked".to_string(),
+            )],
+        ),
+    ]
+}
+
+pub fn run(tally: &mut Tally, print: bool) {
+    tally.kind("entries of docs/DIFFERENCES.md");
+    let path = match env::var_os("DIFFERENCES") {
+        Some(path) => path,
+        None => {
+            println!("DIFFERENCES is not set: docs/DIFFERENCES.md is not compared");
+            return;
+        }
+    };
+    let text = fs::read_to_string(&path).unwrap_or_default();
+    let mut written: BTreeSet<&str> = text.lines().filter(|line| line.starts_with("| ") && *line != HEAD).collect();
+    for (title, rows) in entries() {
+        if print {
+            println!("## {}\n\n{}\n|---|---|---|---|---|---|", title, HEAD);
+        }
+        tally.same(|| format!("a section '{}'", title), text.contains(&format!("## {}\n", title)), true);
+        for row in rows {
+            let line = row.text();
+            if print {
+                println!("{}", line);
+            }
+            tally.current().images += 1;
+            if text.lines().any(|other| other == line) {
+                tally.equal(1);
+            } else {
+                tally.different(|| format!("not in the list: {}", line));
+            }
+            written.remove(line.as_str());
+        }
+        if print {
+            println!();
+        }
+    }
+    for line in written {
+        tally.different(|| format!("listed but not so: {}", line));
+    }
+}

@@ -1,0 +1,338 @@
+//! Gatherings against a model of sets: for each word, the set of values that accepted blocks have carried.
+use std::collections::BTreeSet;
+
+use mofuleka::lent;
+
+use crate::guarded::{refused_of, Bench, Depth, Guarded, FULL};
+use crate::images::{self, Numbers};
+use crate::judge::{Judge, Release};
+use crate::model::{self, refused, Refused};
+use crate::tally::Tally;
+
+/// A history: what each word was carried with.
+#[derive(Clone)]
+struct History {
+    values: Vec<BTreeSet<u16>>,
+}
+
+impl History {
+    fn new() -> Self {
+        Self { values: vec![BTreeSet::new(); 832] }
+    }
+
+    fn take(&mut self, block: &[u8]) -> Result<(), Refused> {
+        let first = model::block(block)?;
+        for (i, word) in block[5..].chunks_exact(2).enumerate() {
+            self.values[first + i].insert(u16::from_be_bytes([word[0], word[1]]));
+        }
+        Ok(())
+    }
+
+    fn join(&mut self, other: &History) {
+        for (mine, theirs) in self.values.iter_mut().zip(&other.values) {
+            mine.extend(theirs);
+        }
+    }
+
+    fn word(&self, word: usize) -> (u8, u16) {
+        let values = &self.values[word];
+        match values.len() {
+            0 => (0, 0),
+            1 => (1, *values.iter().next().expect("one value")),
+            _ => (2, 0),
+        }
+    }
+
+    fn bytes(&self) -> Vec<u8> {
+        let mut bytes = Vec::with_capacity(2496);
+        for word in 0..832 {
+            bytes.extend_from_slice(&self.word(word).1.to_be_bytes());
+        }
+        for word in 0..832 {
+            bytes.push(self.word(word).0);
+        }
+        bytes
+    }
+
+    fn count(&self, mark: u8) -> usize {
+        (0..832).filter(|word| self.word(*word).0 == mark).count()
+    }
+
+    /// Any bytes, read as a history that gives the same state.
+    fn read(bytes: &[u8]) -> Self {
+        let mut history = Self::new();
+        for word in 0..832 {
+            match bytes[1664 + word] {
+                0 => {}
+                1 => {
+                    history.values[word].insert(u16::from_be_bytes([bytes[2 * word], bytes[2 * word + 1]]));
+                }
+                _ => {
+                    history.values[word].extend(&[0, 1]);
+                }
+            }
+        }
+        history
+    }
+}
+
+/// A gathering's bytes between guards.
+struct Lent {
+    guarded: Guarded,
+    long: usize,
+}
+
+impl Lent {
+    fn fresh(tally: &mut Tally, long: usize) -> Self {
+        let mut lent = Self { guarded: Guarded::new(), long };
+        let answer = lent::gathering_fresh(lent.guarded.reset(2496 + long, 0x5A));
+        tally.same(|| "fresh".to_string(), answer.map_err(refused_of), Ok(()));
+        lent.check(tally, &History::new().bytes());
+        lent
+    }
+
+    fn of(bytes: &[u8], long: usize) -> Self {
+        let mut lent = Self { guarded: Guarded::new(), long };
+        lent.guarded.reset(2496 + long, 0x5A)[..2496].copy_from_slice(bytes);
+        lent
+    }
+
+    fn bytes(&self) -> &[u8] {
+        self.guarded.slice()
+    }
+
+    fn with<T>(&mut self, call: impl FnOnce(&mut [u8]) -> T) -> T {
+        let now = self.guarded.slice()[..2496].to_vec();
+        let slice = self.guarded.reset(2496 + self.long, 0x5A);
+        slice[..2496].copy_from_slice(&now);
+        call(slice)
+    }
+
+    fn check(&self, tally: &mut Tally, expected: &[u8]) {
+        tally.same(|| "bytes around a gathering".to_string(), self.guarded.kept_after(2496), true);
+        if &self.bytes()[..2496] == expected {
+            tally.equal(2 * 832);
+        } else {
+            let at = (0..2496).find(|at| self.bytes()[*at] != expected[*at]).unwrap_or(0);
+            tally.different(|| {
+                format!("gathering byte {} is {:02X}, must be {:02X}", at, self.bytes()[at], expected[at])
+            });
+        }
+    }
+
+    fn check_status(&self, tally: &mut Tally, history: &History) {
+        tally.same(
+            || "status".to_string(),
+            lent::gathering_status(self.bytes()).map_err(refused_of),
+            Ok((history.count(0), history.count(2))),
+        );
+    }
+
+    fn check_words(&self, tally: &mut Tally, history: &History) {
+        for word in 0..832 {
+            tally.same(
+                || format!("word {}", word),
+                lent::gathering_word(self.bytes(), word).map_err(refused_of),
+                Ok(history.word(word)),
+            );
+        }
+        for word in [832, 833, 65536, usize::MAX] {
+            tally.same(
+                || format!("word {}", word),
+                lent::gathering_word(self.bytes(), word).map_err(refused_of),
+                Err(refused(11)),
+            );
+        }
+    }
+}
+
+/// A block: mostly good ones out of an image, some with other words, some broken.
+fn some_block(numbers: &mut Numbers, image: &[u8]) -> Vec<u8> {
+    let words = match numbers.below(3) {
+        0 => 64,
+        1 => 1 + numbers.below(64) as usize,
+        _ => 1 + numbers.below(4) as usize,
+    };
+    let first = match numbers.below(40) {
+        0 => numbers.below(65536) as usize,
+        1 => 832 - words + numbers.below(3) as usize,
+        _ => numbers.below(833 - words as u64) as usize,
+    };
+    let mut block = (3 + 2 * words as u16).to_be_bytes().to_vec();
+    block.push(1);
+    block.extend_from_slice(&(first as u16).to_be_bytes());
+    for word in first..first + words {
+        match image.get(2 * word..2 * word + 2) {
+            Some(bytes) => block.extend_from_slice(bytes),
+            None => block.extend_from_slice(&numbers.word().to_be_bytes()),
+        }
+    }
+    match numbers.below(24) {
+        0 => {
+            let at = 5 + numbers.below(block.len() as u64 - 5) as usize;
+            block[at] ^= 1 << numbers.below(8);
+        }
+        1 => {
+            let at = numbers.below(block.len() as u64) as usize;
+            block[at] = numbers.word() as u8;
+        }
+        2 => block.truncate(numbers.below(block.len() as u64 + 1) as usize),
+        3 => block.push(0),
+        4 => block[2] = numbers.word() as u8,
+        // A length field that says something else, with the bytes to match it.
+        5 => {
+            let l = numbers.below(140) as usize;
+            block.resize(2 + l, 1);
+            block[0] = 0;
+            block[1] = l as u8;
+        }
+        6 => block = (0..numbers.below(140)).map(|_| numbers.word() as u8).collect(),
+        _ => {}
+    }
+    block
+}
+
+/// One storm: two gatherings take blocks of one image and are merged; then the image is decoded.
+pub fn storm(tally: &mut Tally, bench: &mut Bench, seed: u64) {
+    let mut numbers = Numbers::new(seed);
+    let name = || format!("storm of seed {:#x}", seed);
+    let image = match numbers.below(4) {
+        0 => images::tame(&mut numbers),
+        1 => images::near(&mut numbers),
+        _ => images::lifelike(numbers.next()),
+    };
+    tally.current().images += 1;
+    let long = numbers.below(3) as usize;
+    let mut gatherings = [Lent::fresh(tally, 0), Lent::fresh(tally, long)];
+    let mut histories = [History::new(), History::new()];
+    // Now and then a state that no history gives stands at the start.
+    if numbers.below(8) == 0 {
+        let mut bytes = [0u8; 2496];
+        bytes.iter_mut().for_each(|byte| *byte = numbers.word() as u8);
+        bytes[1664..].iter_mut().for_each(|mark| {
+            if *mark & 0x80 == 0 {
+                *mark &= 3;
+            }
+        });
+        gatherings[0] = Lent::of(&bytes, 0);
+        histories[0] = History::read(&bytes);
+        gatherings[0].check_status(tally, &histories[0]);
+        gatherings[0].check_words(tally, &histories[0]);
+    }
+    for step in 0..numbers.below(60) {
+        let which = numbers.below(2) as usize;
+        let block = some_block(&mut numbers, &image);
+        let before = gatherings[which].bytes()[..2496].to_vec();
+        let ours = gatherings[which].with(|bytes| lent::gathering_accept(bytes, &block)).map_err(refused_of);
+        let expected = histories[which].take(&block);
+        tally.same(|| format!("{}: block {}", name(), step), ours, expected);
+        match expected {
+            Ok(()) => gatherings[which].check(tally, &histories[which].bytes()),
+            // A refused block leaves every byte, also of a state that no history gives.
+            Err(_) => gatherings[which].check(tally, &before),
+        }
+        gatherings[which].check_status(tally, &histories[which]);
+    }
+    // Merging both ways gives the same state.
+    let (first, second) = (gatherings[0].bytes().to_vec(), gatherings[1].bytes().to_vec());
+    let mut both = histories[0].clone();
+    both.join(&histories[1]);
+    for (into, from) in [(0, &second), (1, &first)] {
+        let ours = gatherings[into].with(|bytes| lent::gathering_merge(bytes, from)).map_err(refused_of);
+        tally.same(name, ours, Ok(()));
+        gatherings[into].check(tally, &both.bytes());
+    }
+    gatherings[0].check_status(tally, &both);
+    gatherings[0].check_words(tally, &both);
+    decode(tally, bench, &gatherings[0], &both, &name);
+    // Now fill what is missing, and decode a full one that never saw a conflict.
+    if numbers.below(2) == 0 {
+        let mut full = Lent::fresh(tally, 0);
+        let mut history = History::new();
+        let mut firsts: Vec<usize> = (0..13).map(|block| 64 * block).collect();
+        for i in (1..firsts.len()).rev() {
+            firsts.swap(i, numbers.below(i as u64 + 1) as usize);
+        }
+        for first in firsts {
+            let mut block = vec![0, 131, 1, (first / 256) as u8, first as u8];
+            block.extend_from_slice(&image[2 * first..2 * first + 128]);
+            let ours = full.with(|bytes| lent::gathering_accept(bytes, &block)).map_err(refused_of);
+            tally.same(name, ours, Ok(()));
+            tally.same(name, history.take(&block), Ok(()));
+        }
+        full.check(tally, &history.bytes());
+        decode(tally, bench, &full, &history, &name);
+    }
+}
+
+fn decode(tally: &mut Tally, bench: &mut Bench, gathering: &Lent, history: &History, name: &dyn Fn() -> String) {
+    let at = |mark| (0..832).find(|word| history.word(*word).0 == mark).map(|word| word as u64);
+    let image: Vec<u8> = history.bytes()[..1664].to_vec();
+    let expected = match (at(2), at(0)) {
+        (Some(word), _) => Err(Refused { number: 9, table: 0, place: word }),
+        (None, Some(word)) => Err(Refused { number: 10, table: 0, place: word }),
+        (None, None) => model::verdict(&image).map(|_| ()),
+    };
+    let bytes = gathering.bytes();
+    let ours = bench.lend(tally, FULL, |offset, alpha, k_ta, record| {
+        lent::gathering_from_data(bytes, offset, alpha, k_ta, record)
+    });
+    tally.same(name, ours, expected);
+    if ours.is_ok() && expected.is_ok() {
+        tally.current().accepted += 1;
+        let judge = Release::decode(&image).answer().expect("the original crate takes an accepted image");
+        bench.compare(tally, &judge, Depth { questions: true, cross: false }, name);
+    }
+    // Short tables come after 9 and 10, before 3 and 4.
+    let short = [1535, 3072, 3072, 122];
+    let ours = bench.lend(tally, short, |offset, alpha, k_ta, record| {
+        lent::gathering_from_data(bytes, offset, alpha, k_ta, record)
+    });
+    let expected = match expected {
+        Err(refused) if refused.number == 9 || refused.number == 10 => Err(refused),
+        _ => Err(refused(2)),
+    };
+    tally.same(name, ours, expected);
+}
+
+/// Slices of every length around the full ones.
+pub fn short_slices(tally: &mut Tally) {
+    let block = [0u8, 5, 1, 0, 0, 1, 2];
+    for len in (0..2496).step_by(13).chain(2480..2500) {
+        let expected = if len < 2496 { Err(refused(2)) } else { Ok(()) };
+        let mut guarded = Guarded::new();
+        let ours = lent::gathering_fresh(guarded.reset(len, 0xA5)).map_err(refused_of);
+        tally.same(|| format!("fresh of {} bytes", len), ours, expected);
+        tally.same(|| format!("fresh of {} bytes", len), guarded.kept_after(2496.min(len)), true);
+        for block in [&block[..], &[]] {
+            let ours = lent::gathering_accept(guarded.reset(len, 0), block).map_err(refused_of);
+            let expected = if len < 2496 { Err(refused(2)) } else { model::block(block).map(|_| ()) };
+            tally.same(|| format!("accept into {} bytes", len), ours, expected);
+            tally.same(
+                || format!("accept into {} bytes", len),
+                guarded.kept_after(if ours.is_ok() { 2496 } else { 0 }),
+                true,
+            );
+        }
+        let other = vec![1u8; len];
+        let ours = lent::gathering_merge(guarded.reset(2496, 0), &other).map_err(refused_of);
+        tally.same(|| format!("merge of {} bytes", len), ours, expected);
+        tally.same(|| format!("merge of {} bytes", len), len >= 2496 || guarded.kept_after(0), true);
+        let ours = lent::gathering_merge(guarded.reset(len, 0), &[1; 2496]).map_err(refused_of);
+        tally.same(|| format!("merge into {} bytes", len), ours, expected);
+        tally.same(|| format!("merge into {} bytes", len), len >= 2496 || guarded.kept_after(0), true);
+        let zeros = vec![0u8; len];
+        let status = if len < 2496 { Err(refused(2)) } else { Ok((832, 0)) };
+        tally.same(|| format!("status of {} bytes", len), lent::gathering_status(&zeros).map_err(refused_of), status);
+        let word = if len < 2496 { Err(refused(2)) } else { Ok((0, 0)) };
+        tally.same(|| format!("word of {} bytes", len), lent::gathering_word(&zeros, 831).map_err(refused_of), word);
+        tally.same(
+            || format!("word of {} bytes", len),
+            lent::gathering_word(&zeros, 832).map_err(refused_of),
+            Err(refused(11)),
+        );
+        let decoded = lent::gathering_from_data(&zeros, &mut [], &mut [], &mut [], &mut []).map_err(refused_of);
+        let expected = if len < 2496 { Err(refused(2)) } else { Err(refused(10)) };
+        tally.same(|| format!("gathering of {} bytes decoded", len), decoded, expected);
+    }
+}

@@ -1,0 +1,310 @@
+//! A model of the rules: what must be answered, in wide integers and the plainest form. It shares nothing with the library.
+//!
+//! It decides which refusal must come, and is itself compared with the original crate on every kind of accepted image.
+
+pub const WORDS: usize = 832;
+pub const PIXELS: usize = 768;
+pub const IMAGE: usize = 1664;
+
+#[derive(Clone, Copy, Debug, Eq, PartialEq)]
+pub struct Refused {
+    pub number: u8,
+    pub table: u8,
+    pub place: u64,
+}
+
+pub const fn refused(number: u8) -> Refused {
+    Refused { number, table: 0, place: 0 }
+}
+
+/// The record as its 122 bytes, and the three tables.
+#[derive(Clone, PartialEq)]
+pub struct Decoded {
+    pub record: [u8; 122],
+    pub offset: [i16; PIXELS],
+    pub alpha: [f32; PIXELS],
+    pub k_ta: [f32; PIXELS],
+}
+
+/// The word at an address 0x2400..0x273F.
+fn word(image: &[u8], address: usize) -> i64 {
+    let at = 2 * (address - 0x2400);
+    i64::from(image[at]) * 256 + i64::from(image[at + 1])
+}
+
+/// Bits high..low of a number, unsigned.
+fn field(number: i64, high: u32, low: u32) -> i64 {
+    (number >> low) % (1 << (high - low + 1))
+}
+
+/// The same bits in two's complement.
+fn signed(number: i64, high: u32, low: u32) -> i64 {
+    let width = high - low + 1;
+    let unsigned = field(number, high, low);
+    if unsigned >= 1 << (width - 1) {
+        unsigned - (1 << width)
+    } else {
+        unsigned
+    }
+}
+
+fn fits(number: i64) -> bool {
+    (-32768..=32767).contains(&number)
+}
+
+/// The float that is exactly n / 2^k; zero is positive.
+pub fn over(n: i64, k: i64) -> f32 {
+    let mut wide = n as f64;
+    for _ in 0..k {
+        wide /= 2.0;
+    }
+    let narrow = wide as f32;
+    assert!(f64::from(narrow) == wide, "not a float");
+    narrow
+}
+
+/// The four-bit fields of rows or columns: number i of those that start at an address.
+fn fourth(image: &[u8], start: usize, i: usize) -> i64 {
+    let low = 4 * (i as u32 % 4);
+    signed(word(image, start + i / 4), low + 3, low)
+}
+
+/// One of the two layouts that start at 0x2410 and at 0x2420.
+pub struct Bulk {
+    pub extra: i64,
+    pub average: i64,
+    pub rows: [i64; 24],
+    pub columns: [i64; 32],
+    pub remainder_scale: i64,
+}
+
+pub fn bulk(image: &[u8], start: usize) -> Bulk {
+    let scales = word(image, start);
+    let row_scale = field(scales, 11, 8);
+    let column_scale = field(scales, 7, 4);
+    let mut rows = [0; 24];
+    for (i, row) in rows.iter_mut().enumerate() {
+        *row = fourth(image, start + 2, i) << row_scale;
+    }
+    let mut columns = [0; 32];
+    for (i, column) in columns.iter_mut().enumerate() {
+        *column = fourth(image, start + 8, i) << column_scale;
+    }
+    Bulk {
+        extra: field(scales, 15, 12),
+        average: signed(word(image, start + 1), 15, 0),
+        rows,
+        columns,
+        remainder_scale: field(scales, 3, 0),
+    }
+}
+
+/// The chessboard order's number of a pixel.
+pub fn chess(pixel: usize) -> usize {
+    let (row, column) = (pixel / 32, pixel % 32);
+    row % 2 + 2 * (column % 2)
+}
+
+/// Kta's average of a pixel.
+fn k_ta_average(image: &[u8], pixel: usize) -> i64 {
+    let w = word(image, 0x2436 + chess(pixel) / 2);
+    if chess(pixel) % 2 == 0 {
+        signed(w, 15, 8)
+    } else {
+        signed(w, 7, 0)
+    }
+}
+
+/// The numerators of the three tables, or the first failure of the walk. The image has at least 1,664 bytes.
+pub fn walk(image: &[u8]) -> Result<[[i64; PIXELS]; 3], Refused> {
+    let mut tables = [[0; PIXELS]; 3];
+    for table in 0..2 {
+        let b = bulk(image, 0x2410 + 16 * table);
+        let remainder_high = 15 - 6 * table as u32;
+        for pixel in 0..PIXELS {
+            let fail = |number| Err(Refused { number, table: table as u8, place: pixel as u64 });
+            let row = b.rows[pixel / 32];
+            if !fits(row) {
+                return fail(3);
+            }
+            let sum = b.average + row;
+            if !fits(sum) {
+                return fail(4);
+            }
+            let column = b.columns[pixel % 32];
+            if !fits(column) {
+                return fail(3);
+            }
+            let sum = sum + column;
+            if !fits(sum) {
+                return fail(4);
+            }
+            let w = word(image, 0x2440 + pixel);
+            let remainder = signed(w, remainder_high, remainder_high - 5) << b.remainder_scale;
+            if !fits(remainder) {
+                return fail(3);
+            }
+            let sum = sum + remainder;
+            if table == 0 && !fits(sum) {
+                return fail(4);
+            }
+            tables[table][pixel] = sum;
+        }
+    }
+    let scale_2 = field(word(image, 0x2438), 3, 0);
+    for pixel in 0..PIXELS {
+        let fail = |number| Err(Refused { number, table: 2, place: pixel as u64 });
+        let remainder = signed(word(image, 0x2440 + pixel), 3, 1) << scale_2;
+        if !fits(remainder) {
+            return fail(3);
+        }
+        let sum = k_ta_average(image, pixel) + remainder;
+        if !fits(sum) {
+            return fail(4);
+        }
+        tables[2][pixel] = sum;
+    }
+    Ok(tables)
+}
+
+/// What an image of any length gets, the lent slices being long enough.
+pub fn verdict(image: &[u8]) -> Result<[[i64; PIXELS]; 3], Refused> {
+    if image.len() < IMAGE {
+        return Err(refused(1));
+    }
+    walk(image)
+}
+
+struct Writer {
+    record: [u8; 122],
+    at: usize,
+}
+
+impl Writer {
+    fn bytes(&mut self, bytes: &[u8]) {
+        self.record[self.at..self.at + bytes.len()].copy_from_slice(bytes);
+        self.at += bytes.len();
+    }
+
+    fn whole(&mut self, number: i64) {
+        assert!(fits(number));
+        self.bytes(&(number as i16).to_be_bytes());
+    }
+
+    fn float(&mut self, number: f32) {
+        self.bytes(&number.to_bits().to_be_bytes());
+    }
+}
+
+/// The record of an image of at least 1,664 bytes.
+pub fn record(image: &[u8]) -> [u8; 122] {
+    let w = |address| word(image, address);
+    let mut r = Writer { record: [0; 122], at: 0 };
+    r.whole(signed(w(0x2433), 15, 8) * 32);
+    r.whole((field(w(0x2433), 7, 0) - 256) * 32 - 8192);
+    r.bytes(&[field(w(0x2438), 13, 12) as u8]);
+    r.float(over(signed(w(0x2432), 15, 10), 12));
+    r.float(over(signed(w(0x2432), 9, 0), 3));
+    r.float(over(signed(w(0x2431), 15, 0), 0));
+    r.float(over(field(w(0x2410), 15, 12) / 4 + 8, 0));
+    r.float(over(signed(w(0x2430), 15, 0), 0));
+    r.float(over(signed(w(0x243C), 15, 8), 13));
+    let step = 10 * field(w(0x243F), 13, 12);
+    let ct2 = field(w(0x243F), 7, 4) * step;
+    let ct3 = field(w(0x243F), 11, 8) * step + ct2;
+    for corner in [-40, 0, ct2, ct3] {
+        r.whole(corner);
+    }
+    let scale = field(w(0x243F), 3, 0) + 8;
+    for (address, high) in [(0x243D, 7), (0x243D, 15), (0x243E, 7), (0x243E, 15)] {
+        r.float(over(signed(w(address), high, high - 7), scale));
+    }
+    let k = field(w(0x2420), 15, 12) + 27;
+    let (ratio, n) = (signed(w(0x2439), 15, 10), field(w(0x2439), 9, 0));
+    r.float(over(n, k));
+    r.float(over(n * (128 + ratio), k + 7));
+    let (d, m) = (signed(w(0x243A), 15, 10), signed(w(0x243A), 9, 0));
+    r.whole(m);
+    r.whole(m + d);
+    let kv_scale = field(w(0x2438), 11, 8);
+    for high in [15, 11, 7, 3] {
+        r.float(over(signed(w(0x2434), high, high - 3), kv_scale));
+    }
+    r.float(over(signed(w(0x243B), 15, 8), kv_scale));
+    r.float(over(signed(w(0x243B), 7, 0), field(w(0x2438), 7, 4) + 8));
+    let gradient = signed(w(0x243C), 7, 0);
+    r.bytes(&[(gradient != 0) as u8]);
+    r.float(over(gradient, 5));
+    // A in eighths, D in halves.
+    let (a, d) = (signed(w(0x2435), 15, 11), 4 * signed(w(0x2435), 10, 6));
+    let (b, c) = (d - a, d + a);
+    for (negated, eighths) in [(true, a), (false, b), (true, c), (false, a), (true, b), (false, c)] {
+        let plain = over(eighths, 3);
+        r.float(if negated { -plain } else { plain });
+    }
+    r.float(over(signed(w(0x2435), 5, 0), 4));
+    assert!(r.at == 122);
+    r.record
+}
+
+/// All of an accepted image.
+pub fn decode(image: &[u8]) -> Result<Decoded, Refused> {
+    let tables = verdict(image)?;
+    let alpha_scale = field(word(image, 0x2420), 15, 12) + 30;
+    let k_ta_scale = field(word(image, 0x2438), 7, 4) + 8;
+    let mut decoded =
+        Decoded { record: record(image), offset: [0; PIXELS], alpha: [0.0; PIXELS], k_ta: [0.0; PIXELS] };
+    for pixel in 0..PIXELS {
+        decoded.offset[pixel] = tables[0][pixel] as i16;
+        decoded.alpha[pixel] = over(tables[1][pixel], alpha_scale);
+        decoded.k_ta[pixel] = over(tables[2][pixel], k_ta_scale);
+    }
+    Ok(decoded)
+}
+
+/// What is wrong with a block, or its first word's number.
+pub fn block(block: &[u8]) -> Result<usize, Refused> {
+    if block.len() < 2 {
+        return Err(refused(5));
+    }
+    let l = 256 * block[0] as usize + block[1] as usize;
+    if block.len() != l + 2 {
+        return Err(refused(5));
+    }
+    if l < 5 || l > 131 || l % 2 == 0 {
+        return Err(refused(6));
+    }
+    if block[2] != 1 {
+        return Err(refused(7));
+    }
+    let first = 256 * block[3] as usize + block[4] as usize;
+    if first + (l - 3) / 2 > WORDS {
+        return Err(refused(8));
+    }
+    Ok(first)
+}
+
+/// Whether a pixel is in a subpage.
+pub fn in_subpage(pattern: u32, subpage: u32, pixel: usize) -> bool {
+    let (row, column) = (pixel / 32, pixel % 32);
+    match pattern {
+        0 => row % 2 == subpage as usize,
+        _ => (row % 2 == column % 2) == (subpage == 0),
+    }
+}
+
+/// A read range: address, offset, length.
+pub fn range(pattern: u32, subpage: u32, number: usize) -> Option<(u64, u64, u64)> {
+    let i = number as u64;
+    match pattern {
+        1 if number == 0 => Some((0x0400, 0, 1536)),
+        0 if number < 12 => Some((0x0400 + 64 * i + 32 * u64::from(subpage), 128 * i + 64 * u64::from(subpage), 64)),
+        _ => None,
+    }
+}
+
+/// The place among the interleave six of a pixel's correction.
+pub fn correction(pixel: usize) -> usize {
+    let (row, column) = (pixel / 32, pixel % 32);
+    3 * (row % 2) + [0, 1, 0, 2][column % 4]
+}

@@ -1,0 +1,159 @@
+//! A fixed sample of the original crate's answers, for a program that replays it with no Rust at hand.
+//!
+//! The file is a sequence of entries up to its end. All numbers are big-endian. An entry:
+//!
+//! | bytes | what |
+//! |---|---|
+//! | 2 | n, the count of words that are set |
+//! | 4 n | n times: the word's number 0..831 (2 bytes), its value (2 bytes); all other words are zero |
+//! | 2 | the image's length in bytes: the 1,664 bytes of the words, cut off there, or followed by zero bytes up to there |
+//! | 1 | the refusal's number, 0 where the image is accepted |
+//! | 1 | the refusal's table |
+//! | 2 | the refusal's place |
+//!
+//! and, where the number is 0:
+//!
+//! | bytes | what |
+//! |---|---|
+//! | 122 | the record |
+//! | 1536 | the offset table |
+//! | 3072 | the alpha table |
+//! | 3072 | the Kta table |
+//!
+//! as docs/INTERFACE.md lays them out. What accepted images get is the original crate's answer, release build; which images
+//! are refused, and how, is the model's.
+use crate::images::{self, Image, Numbers};
+use crate::judge::{Judge, Release};
+use crate::model;
+
+fn of(words: &[(usize, u16)]) -> (Image, usize) {
+    (images::with(words), 1664)
+}
+
+/// Words 0x2430..0x243F all the same, the rest zero: each scalar field at one end of its range.
+fn fields(word: u16) -> (Image, usize) {
+    let mut image = [0u8; 1664];
+    for address in 0x2430..0x2440 {
+        images::set(&mut image, address, word);
+    }
+    // Kta's second scale stays small, so that the image is accepted whatever the pixels hold.
+    let scales = images::get(&image, 0x2438) & 0xFFF8;
+    images::set(&mut image, 0x2438, scales);
+    (image, 1664)
+}
+
+/// The first image of a kind, counted by seed, that is accepted.
+fn accepted(make: fn(&mut Numbers) -> Image, from: u64) -> (Image, usize) {
+    let image = (from..)
+        .map(|seed| make(&mut Numbers::new(seed)))
+        .find(|image| model::verdict(image).is_ok())
+        .expect("there is one");
+    (image, 1664)
+}
+
+pub fn sample() -> Vec<(Image, usize)> {
+    let mut all = vec![
+        of(&[]),
+        // Readings: one image for several words that do not touch each other.
+        of(&[(0x2433, 0x9D68), (0x2435, 0x0841), (0x243C, 0x00FF), (0x243F, 0x2363), (0x2420, 0x7000), (0x2421, 0x2000)]),
+        of(&[(0x2410, 0x0F00), (0x2412, 0x000F), (0x243C, 0x0080), (0x243F, 0x0FF0)]),
+        of(&[
+            (0x2410, 0x4210),
+            (0x2411, 0xFFC0),
+            (0x2412, 0x000F),
+            (0x2418, 0x0007),
+            (0x2436, 0x0500),
+            (0x2438, 0x2001),
+            (0x2440, 0xFC0E),
+        ]),
+        // The datasheet's worked example.
+        of(&[
+            (0x2410, 0x4210),
+            (0x2420, 0x79A6),
+            (0x2421, 0x2F44),
+            (0x2430, 0x18EF),
+            (0x2431, 0x2FF1),
+            (0x2432, 0x5952),
+            (0x2433, 0x9D68),
+            (0x2434, 0x5454),
+            (0x2438, 0x2363),
+            (0x2439, 0xE446),
+            (0x243A, 0xFBB5),
+            (0x243B, 0x044B),
+            (0x243C, 0xF020),
+            (0x243D, 0x9797),
+            (0x25AF, 0x08A0),
+        ]),
+        fields(0xFFFF),
+        fields(0x8000),
+        fields(0x7FFF),
+        fields(0x1234),
+        // The last alpha sum leaves 16 bits on either side, and is accepted.
+        of(&[(0x2420, 0xF00A), (0x2421, 0x7FFF), (0x2440, 0x01F0)]),
+        of(&[(0x2420, 0x000A), (0x2421, 0x8000), (0x273F, 0x0200)]),
+        (images::lifelike(1), 1664),
+        (images::lifelike(2), 1664),
+        (images::lifelike(3), 1700),
+        accepted(images::tame, 1),
+        accepted(images::tame, 100),
+        accepted(images::near, 1),
+        accepted(images::near, 100),
+        accepted(images::near, 200),
+        accepted(images::wild, 1),
+        accepted(images::sparse, 1),
+    ];
+    // Refused, each at its own step of the walk: offset, alpha, Kta.
+    all.extend([0, 1, 830, 831, 1000, 1663].iter().map(|len| (images::lifelike(1), *len)));
+    all.extend(vec![
+        of(&[(0x2410, 0x0F00), (0x2412, 0x0001)]),
+        of(&[(0x2410, 0x0F00), (0x2412, 0x0002)]),
+        of(&[(0x2411, 0x7FFF), (0x2413, 0x0010)]),
+        of(&[(0x2410, 0x00F0), (0x241F, 0x1000)]),
+        of(&[(0x2411, 0x8000), (0x2418, 0x00F0)]),
+        of(&[(0x2410, 0x000B), (0x2460, 0x4000)]),
+        of(&[(0x2411, 0x8000), (0x273F, 0xFC00)]),
+        of(&[(0x2420, 0x0F00), (0x2427, 0x1000)]),
+        of(&[(0x2421, 0x7FFF), (0x2422, 0x0100)]),
+        of(&[(0x2420, 0x00F0), (0x2429, 0x0010)]),
+        of(&[(0x2421, 0x8000), (0x2428, 0xF000)]),
+        of(&[(0x2420, 0x000B), (0x2500, 0x0100)]),
+        of(&[(0x2438, 0x000F), (0x273F, 0x0002)]),
+        of(&[(0x2436, 0xFF00), (0x2438, 0x000D), (0x2442, 0x0008)]),
+        // Two faults: the walk's first is named.
+        of(&[(0x2411, 0x7FFF), (0x2413, 0x0010), (0x2420, 0x0F00), (0x2422, 0x0001)]),
+        of(&[(0x2410, 0x0FF0), (0x2417, 0x1000), (0x2418, 0x0020)]),
+    ]);
+    all
+}
+
+/// The file.
+pub fn bytes() -> Vec<u8> {
+    let mut file = Vec::new();
+    for (words, len) in sample() {
+        let mut image = words.to_vec();
+        image.resize(len, 0);
+        let set: Vec<usize> = (0..832).filter(|word| words[2 * word..2 * word + 2] != [0, 0]).collect();
+        file.extend_from_slice(&(set.len() as u16).to_be_bytes());
+        for word in set {
+            file.extend_from_slice(&(word as u16).to_be_bytes());
+            file.extend_from_slice(&words[2 * word..2 * word + 2]);
+        }
+        file.extend_from_slice(&(len as u16).to_be_bytes());
+        match model::decode(&image) {
+            Err(refused) => {
+                file.push(refused.number);
+                file.push(refused.table);
+                file.extend_from_slice(&(refused.place as u16).to_be_bytes());
+            }
+            Ok(_) => {
+                file.extend_from_slice(&[0; 4]);
+                let judge = Release::decode(&image).answer().expect("the original crate takes an accepted image");
+                file.extend_from_slice(&judge.record());
+                judge.offset().iter().for_each(|x| file.extend_from_slice(&x.to_be_bytes()));
+                judge.alpha().iter().for_each(|x| file.extend_from_slice(&x.to_bits().to_be_bytes()));
+                judge.k_ta().iter().for_each(|x| file.extend_from_slice(&x.to_bits().to_be_bytes()));
+            }
+        }
+    }
+    file
+}

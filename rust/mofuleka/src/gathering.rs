@@ -1,0 +1,143 @@
+use std::convert::TryFrom;
+use std::fmt;
+
+use crate::calibration::Calibration;
+use crate::lent;
+use crate::refusal::Refusal;
+
+/// An EEPROM image on its way: the words that blocks have carried so far.
+///
+/// ```
+/// use mofuleka::{Gathering, Word};
+///
+/// let mut gathering = Gathering::new();
+/// gathering.accept(&[0x00, 0x05, 0x01, 0x03, 0x3F, 0xAB, 0xCD])?; // one word, number 831
+/// assert_eq!(gathering.word(831)?, Word::Held(0xABCD));
+/// assert_eq!(gathering.status().missing, 831);
+///
+/// let refusal = gathering.accept(&[0x00, 0x07, 0x01, 0x03, 0x3F, 0x12, 0x34, 0x56, 0x78]).unwrap_err();
+/// assert_eq!(refusal.to_string(), "the block reaches past word 831 (refusal 8)");
+///
+/// let mut other = Gathering::new();
+/// other.accept(&[0x00, 0x05, 0x01, 0x03, 0x3F, 0xAB, 0xCE])?;
+/// gathering.merge(&other);
+/// assert_eq!(gathering.word(831)?, Word::InConflict);
+/// assert_eq!(gathering.calibration().unwrap_err().number(), 9);
+/// # Ok::<(), mofuleka::Refusal>(())
+/// ```
+#[derive(Clone, Eq, PartialEq)]
+pub struct Gathering {
+    bytes: [u8; lent::GATHERING_BYTES],
+}
+
+/// What a gathering knows of one word.
+#[derive(Clone, Copy, Debug, Eq, Hash, PartialEq)]
+pub enum Word {
+    /// No block has carried it.
+    Missing,
+    /// Every block that carried it had this value.
+    Held(u16),
+    /// Blocks carried different values.
+    InConflict,
+}
+
+/// How far a gathering is.
+#[derive(Clone, Copy, Debug, Eq, Hash, PartialEq)]
+pub struct Status {
+    /// Words that no block has carried.
+    pub missing: usize,
+    /// Words for which blocks carried different values.
+    pub in_conflict: usize,
+}
+
+impl Status {
+    /// Whether every word is held, so that the gathering can be decoded.
+    pub fn is_full(&self) -> bool {
+        self.missing == 0 && self.in_conflict == 0
+    }
+}
+
+impl Gathering {
+    /// The number of words gathered.
+    pub const WORDS: usize = 832;
+
+    /// A fresh gathering: every word missing.
+    pub fn new() -> Self {
+        let mut bytes = [0; lent::GATHERING_BYTES];
+        lent::gathering_fresh(&mut bytes).expect("a slice of full length");
+        Self { bytes }
+    }
+
+    /// The same as [`Gathering::new`].
+    pub fn fresh() -> Self {
+        Self::new()
+    }
+
+    /// A gathering from stored bytes, as [`Gathering::as_bytes`] gives them; longer slices are cut. Any bytes will do: a
+    /// mark that is not known counts as in conflict. Refusal: 2 for fewer than 2,496 bytes.
+    pub fn from_bytes(bytes: &[u8]) -> Result<Self, Refusal> {
+        lent::gathering_status(bytes)?;
+        let mut gathering = Self { bytes: [0; lent::GATHERING_BYTES] };
+        gathering.bytes.copy_from_slice(&bytes[..lent::GATHERING_BYTES]);
+        Ok(gathering)
+    }
+
+    /// The bytes to store: 832 values, then 832 marks.
+    pub fn as_bytes(&self) -> &[u8; lent::GATHERING_BYTES] {
+        &self.bytes
+    }
+
+    /// Takes a block in. Refusals: 5, 6, 7, 8; the gathering is then as it was.
+    pub fn accept(&mut self, block: &[u8]) -> Result<(), Refusal> {
+        lent::gathering_accept(&mut self.bytes, block)
+    }
+
+    /// Takes in all that the other gathering has seen.
+    pub fn merge(&mut self, other: &Gathering) {
+        lent::gathering_merge(&mut self.bytes, &other.bytes).expect("slices of full length");
+    }
+
+    /// How many words are missing, and how many in conflict.
+    pub fn status(&self) -> Status {
+        let (missing, in_conflict) = lent::gathering_status(&self.bytes).expect("a slice of full length");
+        Status { missing, in_conflict }
+    }
+
+    /// What is known of one word, 0 for address 0x2400. Refusal: 11 above 831.
+    pub fn word(&self, word: usize) -> Result<Word, Refusal> {
+        Ok(match lent::gathering_word(&self.bytes, word)? {
+            (0, _) => Word::Missing,
+            (1, value) => Word::Held(value),
+            _ => Word::InConflict,
+        })
+    }
+
+    /// Decodes the gathered image. Refusals: 9 for the lowest word in conflict, 10 for the lowest missing, then 3 and 4.
+    pub fn calibration(&self) -> Result<Calibration, Refusal> {
+        Calibration::from_gathering(&self.bytes)
+    }
+}
+
+impl Default for Gathering {
+    fn default() -> Self {
+        Self::new()
+    }
+}
+
+impl TryFrom<&[u8]> for Gathering {
+    type Error = Refusal;
+
+    fn try_from(bytes: &[u8]) -> Result<Self, Refusal> {
+        Self::from_bytes(bytes)
+    }
+}
+
+impl fmt::Debug for Gathering {
+    fn fmt(&self, f: &mut fmt::Formatter<'_>) -> fmt::Result {
+        let status = self.status();
+        f.debug_struct("Gathering")
+            .field("missing", &status.missing)
+            .field("in_conflict", &status.in_conflict)
+            .finish_non_exhaustive()
+    }
+}

@@ -1,0 +1,619 @@
+//! Every function and every refusal of the crate; short, empty and over-long slices.
+use std::collections::HashSet;
+
+use mofuleka::{
+    lent, sys, AccessPattern, Address, Calibration, Gathering, Mlx90640, RamAddress, Reason, Refusal, Status, Subpage,
+    Word,
+};
+
+/// An all-zero image with some words set, by address.
+fn image(words: &[(usize, u16)]) -> Vec<u8> {
+    let mut image = vec![0u8; 1664];
+    for (address, word) in words {
+        image[2 * (address - 0x2400)..][..2].copy_from_slice(&word.to_be_bytes());
+    }
+    image
+}
+
+fn parts(refusal: Refusal) -> (u8, u8, usize) {
+    (refusal.number(), refusal.table(), refusal.place())
+}
+
+fn refusal(words: &[(usize, u16)]) -> (u8, u8, usize) {
+    parts(Calibration::from_data(&image(words)).unwrap_err())
+}
+
+fn calibration(words: &[(usize, u16)]) -> Calibration {
+    Calibration::from_data(&image(words)).unwrap()
+}
+
+/// A block of words.
+fn block(first: u16, words: &[u16]) -> Vec<u8> {
+    let mut block = (3 + 2 * words.len() as u16).to_be_bytes().to_vec();
+    block.push(1);
+    block.extend_from_slice(&first.to_be_bytes());
+    for word in words {
+        block.extend_from_slice(&word.to_be_bytes());
+    }
+    block
+}
+
+/// A gathering that holds every word of an image.
+fn gathered(image: &[u8]) -> Gathering {
+    let words: Vec<u16> = image.chunks_exact(2).map(|b| u16::from_be_bytes([b[0], b[1]])).collect();
+    let mut gathering = Gathering::new();
+    for first in (0..832).step_by(64) {
+        gathering.accept(&block(first as u16, &words[first..first + 64])).unwrap();
+    }
+    gathering
+}
+
+#[test]
+fn sizes_are_the_archives() {
+    assert_eq!(lent::sizes(), [1664, 1536, 3072, 3072, 122, 2496]);
+    assert_eq!(
+        lent::sizes(),
+        [
+            lent::IMAGE_BYTES,
+            lent::OFFSET_TABLE_BYTES,
+            lent::ALPHA_TABLE_BYTES,
+            lent::K_TA_TABLE_BYTES,
+            lent::RECORD_BYTES,
+            lent::GATHERING_BYTES
+        ]
+    );
+}
+
+#[test]
+fn zero_image() {
+    let c = calibration(&[]);
+    assert_eq!((c.k_v_dd(), c.v_dd_25(), c.resolution()), (0, -16384, 0));
+    for zero in [c.k_v_ptat(), c.k_t_ptat(), c.v_ptat_25(), c.gain(), c.k_s_ta()] {
+        assert_eq!(zero.to_bits(), 0);
+    }
+    assert_eq!(c.alpha_ptat(), 8.0);
+    assert_eq!(c.v_dd_0(), 3.3);
+    assert_eq!(c.emissivity(), None);
+    assert_eq!(c.corner_temperatures(), [-40, 0, 0, 0]);
+    assert_eq!(c.k_s_to(), [0.0; 4]);
+    for subpage in [Subpage::Zero, Subpage::One] {
+        assert_eq!(c.alpha_cp(subpage).to_bits(), 0);
+        assert_eq!(c.offset_reference_cp(subpage), 0);
+        assert_eq!(c.k_v_cp(subpage).to_bits(), 0);
+        assert_eq!(c.k_ta_cp(subpage).to_bits(), 0);
+        assert!(c.offset_reference_pixels(subpage).all(|x| *x == 0));
+        assert!(c.alpha_pixels(subpage).all(|x| x.to_bits() == 0));
+        assert!(c.k_ta_pixels(subpage).all(|x| x.to_bits() == 0));
+        assert!(c.k_v_pixels(subpage).all(|x| x.to_bits() == 0));
+        assert_eq!(c.offset_reference_pixels(subpage).len(), 768);
+        assert_eq!(c.alpha_pixels(subpage).len(), 768);
+        assert_eq!(c.k_ta_pixels(subpage).len(), 768);
+        assert_eq!(c.k_v_pixels(subpage).len(), 768);
+    }
+    assert_eq!(c.temperature_gradient_coefficient(), None);
+    let corrections: Vec<_> = c.access_pattern_compensation_pixels(AccessPattern::Interleave).collect();
+    assert_eq!(corrections.len(), 768);
+    let bits: Vec<u32> = corrections.iter().map(|x| x.unwrap().to_bits()).collect();
+    assert_eq!(bits[..4], [0x8000_0000, 0, 0x8000_0000, 0x8000_0000]);
+    assert_eq!(bits[32..36], [0, 0x8000_0000, 0, 0]);
+    assert!(c.access_pattern_compensation_pixels(AccessPattern::Chess).all(|x| x.is_none()));
+    assert_eq!(c.access_pattern_compensation_pixels(AccessPattern::Chess).len(), 768);
+    assert_eq!(c.record()[89], 0);
+}
+
+#[test]
+fn readings() {
+    let c = calibration(&[(0x2433, 0x9D68)]);
+    assert_eq!((c.k_v_dd(), c.v_dd_25()), (-3168, -13056));
+    let c = calibration(&[(0x2410, 0x0F00), (0x2412, 0x000F)]);
+    assert!(c.offset_reference_pixels(Subpage::Zero).take(32).all(|x| *x == -32768));
+    let c = calibration(&[
+        (0x2410, 0x4210),
+        (0x2411, 0xFFC0),
+        (0x2412, 0x000F),
+        (0x2418, 0x0007),
+        (0x2440, 0xFC0E),
+    ]);
+    assert_eq!(c.offset_reference_pixels(Subpage::Zero).next(), Some(&-55));
+    assert_eq!(c.alpha_ptat(), 9.0);
+    let c = calibration(&[(0x2420, 0x7000), (0x2421, 0x2000)]);
+    assert_eq!(c.alpha_pixels(Subpage::One).next().unwrap().to_bits(), 0x3380_0000);
+    let c = calibration(&[(0x2436, 0x0500), (0x2438, 0x2001), (0x2440, 0xFC0E)]);
+    assert_eq!(c.k_ta_pixels(Subpage::One).next().unwrap().to_bits(), 0x3C40_0000);
+    assert_eq!(c.resolution(), 2);
+    assert_eq!(calibration(&[(0x243C, 0x00FF)]).temperature_gradient_coefficient(), Some(-1.0 / 32.0));
+    assert_eq!(calibration(&[(0x243C, 0x0080)]).temperature_gradient_coefficient(), Some(-4.0));
+    let c = calibration(&[(0x2435, 0x0841)]);
+    let row = |first: usize| -> Vec<f32> {
+        c.access_pattern_compensation_pixels(AccessPattern::Interleave)
+            .skip(first)
+            .take(4)
+            .map(|x| *x.unwrap())
+            .collect()
+    };
+    assert_eq!(row(0), [-0.125, 0.375, -0.125, -0.625]);
+    assert_eq!(row(32), [0.125, -0.375, 0.125, 0.625]);
+    assert_eq!(c.access_pattern_compensation_cp(Subpage::One, AccessPattern::Interleave), Some(0.0625));
+    assert_eq!(c.access_pattern_compensation_cp(Subpage::Zero, AccessPattern::Interleave), None);
+    assert_eq!(c.access_pattern_compensation_cp(Subpage::One, AccessPattern::Chess), None);
+    assert_eq!(c.access_pattern_compensation_cp(Subpage::Zero, AccessPattern::Chess), None);
+    assert_eq!(c.access_pattern_compensation_pixel(3, AccessPattern::Interleave), Ok(Some(-0.625)));
+    assert_eq!(c.access_pattern_compensation_pixel(3, AccessPattern::Chess), Ok(None));
+    assert_eq!(calibration(&[(0x243F, 0x2363)]).corner_temperatures(), [-40, 0, 120, 180]);
+    assert_eq!(calibration(&[(0x243F, 0x0FF0)]).corner_temperatures(), [-40, 0, 0, 0]);
+}
+
+#[test]
+fn other_fields() {
+    // The datasheet's worked example.
+    let c = calibration(&[
+        (0x2420, 0x79A6),
+        (0x2430, 0x18EF),
+        (0x2431, 0x2FF1),
+        (0x2432, 0x5952),
+        (0x2434, 0x5454),
+        (0x2438, 0x2363),
+        (0x2439, 0xE446),
+        (0x243A, 0xFBB5),
+        (0x243B, 0x044B),
+        (0x243C, 0xF020),
+        (0x243D, 0x9797),
+        (0x243F, 0x0009),
+    ]);
+    assert_eq!(c.gain(), 6383.0);
+    assert_eq!(c.v_ptat_25(), 12273.0);
+    assert_eq!(c.k_v_ptat(), 22.0 / 4096.0);
+    assert_eq!(c.k_t_ptat(), 42.25);
+    assert_eq!(c.alpha_cp(Subpage::Zero), 70.0 / (1u64 << 34) as f32);
+    assert_eq!(c.alpha_cp(Subpage::One), 70.0 * 121.0 / (1u64 << 41) as f32);
+    assert_eq!((c.offset_reference_cp(Subpage::Zero), c.offset_reference_cp(Subpage::One)), (-75, -77));
+    assert_eq!(c.k_v_cp(Subpage::Zero), 0.5);
+    assert_eq!(c.k_ta_cp(Subpage::Zero), 75.0 / 16384.0);
+    assert_eq!(c.k_s_ta(), -16.0 / 8192.0);
+    assert_eq!(c.temperature_gradient_coefficient(), Some(1.0));
+    assert_eq!(c.k_s_to()[..2], [-105.0 / 131072.0; 2]);
+    let k_v: Vec<f32> = c.k_v_pixels(Subpage::Zero).copied().collect();
+    assert_eq!((k_v[0], k_v[32], k_v[1], k_v[33]), (0.625, 0.5, 0.625, 0.5));
+    for (pixel, value) in k_v.iter().enumerate() {
+        assert_eq!(c.k_v_pixel(pixel), Ok(*value));
+    }
+}
+
+#[test]
+fn image_refusals() {
+    for short in [0, 1, 830, 831, 1662, 1663] {
+        let refusal = Calibration::from_data(&vec![0; short]).unwrap_err();
+        assert_eq!(parts(refusal), (1, 0, 0));
+        assert_eq!(refusal.reason(), Reason::ShortImage);
+    }
+    assert_eq!(refusal(&[(0x2410, 0x0F00), (0x2412, 0x0001)]), (3, 0, 0));
+    assert_eq!(refusal(&[(0x2410, 0x0F00), (0x2412, 0x0002)]), (3, 0, 0));
+    assert_eq!(refusal(&[(0x2411, 0x7FFF), (0x2413, 0x0010)]), (4, 0, 160));
+    assert_eq!(refusal(&[(0x2420, 0x00F0), (0x2429, 0x0010)]), (3, 1, 5));
+    assert_eq!(refusal(&[(0x2421, 0x8000), (0x2428, 0xF000)]), (4, 1, 3));
+    assert_eq!(refusal(&[(0x2438, 0x000F), (0x2440 + 767, 0x0002)]), (3, 2, 767));
+    assert_eq!(refusal(&[(0x2436, 0xFF00), (0x2438, 0x000D), (0x2442, 0x0008)]), (4, 2, 2));
+}
+
+#[test]
+fn words_that_are_not_read() {
+    let mut changed = image(&[(0x2433, 0x9D68)]);
+    let plain = Calibration::from_data(&changed).unwrap();
+    changed[..32].iter_mut().for_each(|byte| *byte = 0xA5);
+    changed.extend_from_slice(&[0xFF; 500]);
+    let other = Calibration::from_data(&changed).unwrap();
+    assert_eq!(plain, other);
+    assert_eq!(plain, plain.clone());
+    assert_ne!(plain, calibration(&[]));
+    assert!(format!("{:?}", plain).contains("k_v_dd: -3168"));
+    let slice: &[u8] = &changed;
+    assert!(<Calibration as std::convert::TryFrom<&[u8]>>::try_from(slice).is_ok());
+}
+
+#[test]
+fn lent_slices() {
+    // Each of the four written slices short by one, or empty: refusal 2, and no byte of any slice is touched.
+    let good = image(&[(0x2411, 0x1234)]);
+    let full = [1536, 3072, 3072, 122];
+    for which in 0..4 {
+        for len in [0, full[which] - 1] {
+            let mut lens = full;
+            lens[which] = len;
+            let mut slices: Vec<Vec<u8>> = lens.iter().map(|len| vec![0x5A; *len]).collect();
+            let (a, b) = slices.split_at_mut(2);
+            let (offset, alpha) = a.split_at_mut(1);
+            let (k_ta, record) = b.split_at_mut(1);
+            let refusal =
+                lent::from_data(&good, &mut offset[0], &mut alpha[0], &mut k_ta[0], &mut record[0]).unwrap_err();
+            assert_eq!(parts(refusal), (2, 0, 0));
+            let gathering = gathered(&good);
+            let refusal = lent::gathering_from_data(
+                gathering.as_bytes(),
+                &mut offset[0],
+                &mut alpha[0],
+                &mut k_ta[0],
+                &mut record[0],
+            )
+            .unwrap_err();
+            assert_eq!(parts(refusal), (2, 0, 0));
+            assert!(slices.iter().all(|slice| slice.iter().all(|byte| *byte == 0x5A)));
+        }
+    }
+    // Over-long slices keep the bytes past their layout; a short image comes before a short slice.
+    let mut long: Vec<Vec<u8>> = full.iter().map(|len| vec![0x5A; len + 9]).collect();
+    let (a, b) = long.split_at_mut(2);
+    let (offset, alpha) = a.split_at_mut(1);
+    let (k_ta, record) = b.split_at_mut(1);
+    lent::from_data(&good, &mut offset[0], &mut alpha[0], &mut k_ta[0], &mut record[0]).unwrap();
+    assert_eq!(offset[0][..2], [0x12, 0x34]);
+    for (slice, len) in [&offset[0], &alpha[0], &k_ta[0], &record[0]].iter().zip(full) {
+        assert!(slice[len..].iter().all(|byte| *byte == 0x5A));
+    }
+    let refusal = lent::from_data(&good[..1663], &mut [], &mut [], &mut [], &mut []).unwrap_err();
+    assert_eq!(refusal.number(), 1);
+    // A refused image leaves them alone too.
+    let bad = image(&[(0x2411, 0x7FFF), (0x2413, 0x0010)]);
+    let before = long.clone();
+    let (a, b) = long.split_at_mut(2);
+    let (offset, alpha) = a.split_at_mut(1);
+    let (k_ta, record) = b.split_at_mut(1);
+    let refusal = lent::from_data(&bad, &mut offset[0], &mut alpha[0], &mut k_ta[0], &mut record[0]).unwrap_err();
+    assert_eq!(parts(refusal), (4, 0, 160));
+    assert_eq!(long, before);
+}
+
+#[test]
+fn blocks() {
+    let mut g = Gathering::new();
+    assert_eq!(g, Gathering::fresh());
+    assert_eq!(g, Gathering::default());
+    assert_eq!(g.status(), Status { missing: 832, in_conflict: 0 });
+    let before = g.clone();
+    let number = |g: &mut Gathering, block: &[u8]| g.accept(block).unwrap_err().number();
+    assert_eq!(number(&mut g, &[]), 5);
+    assert_eq!(number(&mut g, &[0]), 5);
+    assert_eq!(number(&mut g, &[0, 5, 1, 0, 0, 0]), 5);
+    assert_eq!(number(&mut g, &[0, 5, 1, 0, 0, 0, 0, 0]), 5);
+    assert_eq!(number(&mut g, &[0, 0]), 6);
+    assert_eq!(number(&mut g, &[0, 3, 1, 0, 0]), 6);
+    assert_eq!(number(&mut g, &[0, 6, 1, 0, 0, 0, 0, 0]), 6);
+    assert_eq!(number(&mut g, &block(0, &[0; 65])), 6);
+    let mut version = block(0, &[7]);
+    version[2] = 2;
+    assert_eq!(number(&mut g, &version), 7);
+    assert_eq!(number(&mut g, &[0, 7, 1, 3, 0x3F, 0x12, 0x34, 0x56, 0x78]), 8);
+    assert_eq!(number(&mut g, &block(832, &[0])), 8);
+    assert_eq!(number(&mut g, &block(0xFFFF, &[0])), 8);
+    assert_eq!(g, before);
+    g.accept(&[0, 5, 1, 3, 0x3F, 0xAB, 0xCD]).unwrap();
+    assert_eq!(g.word(831), Ok(Word::Held(0xABCD)));
+    assert_eq!(g.word(830), Ok(Word::Missing));
+    assert_eq!(g.word(832).unwrap_err().number(), 11);
+    assert_eq!(g.word(usize::MAX).unwrap_err().number(), 11);
+    g.accept(&block(831, &[0xABCD])).unwrap();
+    assert_eq!(g.word(831), Ok(Word::Held(0xABCD)));
+    g.accept(&block(830, &[1, 2])).unwrap();
+    assert_eq!((g.word(830), g.word(831)), (Ok(Word::Held(1)), Ok(Word::InConflict)));
+    assert_eq!(g.status(), Status { missing: 830, in_conflict: 1 });
+    assert!(!g.status().is_full());
+    g.accept(&block(831, &[0xABCD])).unwrap();
+    assert_eq!(g.word(831), Ok(Word::InConflict));
+    assert_eq!(format!("{:?}", g), "Gathering { missing: 830, in_conflict: 1, .. }");
+}
+
+#[test]
+fn merges() {
+    let (mut a, mut b) = (Gathering::new(), Gathering::new());
+    a.accept(&block(0, &[1, 2, 3])).unwrap();
+    b.accept(&block(1, &[2, 4, 5])).unwrap();
+    let mut both = a.clone();
+    both.merge(&b);
+    let mut other = b.clone();
+    other.merge(&a);
+    assert_eq!(both, other);
+    let words: Vec<Word> = (0..5).map(|word| both.word(word).unwrap()).collect();
+    assert_eq!(words, [Word::Held(1), Word::Held(2), Word::InConflict, Word::Held(5), Word::Missing]);
+    both.merge(&Gathering::new());
+    assert_eq!(both, other);
+}
+
+#[test]
+fn gathered_images() {
+    let bytes = image(&[(0x2410, 0x4210), (0x2433, 0x9D68), (0x2440, 0xFC0E)]);
+    let mut full = gathered(&bytes);
+    assert!(full.status().is_full());
+    assert_eq!(full.calibration().unwrap(), Calibration::from_data(&bytes).unwrap());
+    full.accept(&block(700, &[9])).unwrap();
+    full.accept(&block(17, &[9])).unwrap();
+    assert_eq!(parts(full.calibration().unwrap_err()), (9, 0, 17));
+    let mut lacking = Gathering::new();
+    lacking.accept(&block(0, &[0; 20])).unwrap();
+    assert_eq!(parts(lacking.calibration().unwrap_err()), (10, 0, 20));
+    let bad = gathered(&image(&[(0x2411, 0x7FFF), (0x2413, 0x0010)]));
+    assert_eq!(parts(bad.calibration().unwrap_err()), (4, 0, 160));
+}
+
+#[test]
+fn stored_gatherings() {
+    assert_eq!(Gathering::from_bytes(&[0; 2495]).unwrap_err().number(), 2);
+    assert_eq!(Gathering::from_bytes(&[]).unwrap_err().number(), 2);
+    assert_eq!(Gathering::from_bytes(&[0; 2600]).unwrap(), Gathering::new());
+    // A state that no history gives: unknown marks, and values beside missing and in conflict.
+    let mut bytes = [0u8; 2496];
+    bytes[..6].copy_from_slice(&[1, 2, 3, 4, 5, 6]);
+    bytes[1664..1667].copy_from_slice(&[0, 2, 77]);
+    let mut odd = Gathering::from_bytes(&bytes).unwrap();
+    assert_eq!(odd.as_bytes()[..], bytes[..]);
+    assert_eq!(odd.status(), Status { missing: 830, in_conflict: 2 });
+    assert_eq!(odd.word(0), Ok(Word::Missing));
+    assert_eq!(odd.word(2), Ok(Word::InConflict));
+    assert_eq!(lent::gathering_word(&bytes, 2), Ok((2, 0)));
+    assert!(odd.accept(&[]).is_err());
+    assert_eq!(odd.as_bytes()[..], bytes[..]);
+    odd.accept(&block(831, &[1])).unwrap();
+    assert_eq!(odd.as_bytes()[..6], [0; 6]);
+    assert_eq!(odd.as_bytes()[1664..1667], [0, 2, 2]);
+    let mut merged = Gathering::from_bytes(&bytes).unwrap();
+    merged.merge(&Gathering::new());
+    assert_eq!(merged.as_bytes()[..6], [0; 6]);
+    assert_eq!(merged.as_bytes()[1664..1667], [0, 2, 2]);
+    let slice: &[u8] = &bytes;
+    assert!(<Gathering as std::convert::TryFrom<&[u8]>>::try_from(slice).is_ok());
+}
+
+#[test]
+fn short_and_long_gatherings() {
+    let good = block(0, &[1]);
+    for len in [0, 1, 2495] {
+        let mut bytes = vec![0x5A; len];
+        assert_eq!(lent::gathering_fresh(&mut bytes).unwrap_err().number(), 2);
+        assert_eq!(lent::gathering_accept(&mut bytes, &good).unwrap_err().number(), 2);
+        assert_eq!(lent::gathering_accept(&mut bytes, &[]).unwrap_err().number(), 2);
+        assert_eq!(lent::gathering_merge(&mut bytes, &[0; 2496]).unwrap_err().number(), 2);
+        assert_eq!(lent::gathering_status(&bytes).unwrap_err().number(), 2);
+        assert_eq!(lent::gathering_word(&bytes, 0).unwrap_err().number(), 2);
+        assert_eq!(lent::gathering_word(&bytes, 832).unwrap_err().number(), 11);
+        let refusal = lent::gathering_from_data(&bytes, &mut [], &mut [], &mut [], &mut []).unwrap_err();
+        assert_eq!(refusal.number(), 2);
+        assert!(bytes.iter().all(|byte| *byte == 0x5A));
+        let mut first = vec![0x5A; 2496];
+        assert_eq!(lent::gathering_merge(&mut first, &bytes).unwrap_err().number(), 2);
+        assert!(first.iter().all(|byte| *byte == 0x5A));
+    }
+    // 9 and 10 come before a short table.
+    let fresh = Gathering::new();
+    let refusal = lent::gathering_from_data(fresh.as_bytes(), &mut [], &mut [], &mut [], &mut []).unwrap_err();
+    assert_eq!(parts(refusal), (10, 0, 0));
+    // Over-long ones keep their rest.
+    let mut long = vec![0x5A; 2500];
+    lent::gathering_fresh(&mut long).unwrap();
+    assert!(long[..2496].iter().all(|byte| *byte == 0) && long[2496..] == [0x5A; 4]);
+    lent::gathering_accept(&mut long, &good).unwrap();
+    let other = long.clone();
+    lent::gathering_merge(&mut long, &other).unwrap();
+    assert!(long[2496..] == [0x5A; 4]);
+    assert_eq!(lent::gathering_status(&long), Ok((831, 0)));
+    assert_eq!(lent::gathering_word(&long, 0), Ok((1, 1)));
+}
+
+#[test]
+fn masks() {
+    for pattern in [AccessPattern::Interleave, AccessPattern::Chess] {
+        let zero: Vec<bool> = Mlx90640::pixels_in_subpage(Subpage::Zero, pattern).collect();
+        let one: Vec<bool> = Mlx90640::pixels_in_subpage(Subpage::One, pattern).collect();
+        assert_eq!((zero.len(), one.len()), (768, 768));
+        for pixel in 0..768 {
+            let (row, column) = (pixel / 32, pixel % 32);
+            let expected = match pattern {
+                AccessPattern::Interleave => row % 2 == 0,
+                AccessPattern::Chess => row % 2 == column % 2,
+            };
+            assert_eq!((zero[pixel], one[pixel]), (expected, !expected));
+            assert_eq!(Mlx90640::pixel_in_subpage(Subpage::Zero, pattern, pixel), Ok(expected));
+        }
+        for past in [768, usize::MAX] {
+            assert_eq!(Mlx90640::pixel_in_subpage(Subpage::Zero, pattern, past).unwrap_err().number(), 11);
+        }
+    }
+    let mut iterator = Mlx90640::pixels_in_subpage(Subpage::Zero, AccessPattern::Chess);
+    assert_eq!(iterator.len(), 768);
+    iterator.next();
+    assert_eq!(iterator.len(), 767);
+    assert_eq!(iterator.clone().count(), 767);
+}
+
+#[test]
+fn ranges() {
+    for subpage in [Subpage::Zero, Subpage::One] {
+        let chess: Vec<_> = Mlx90640::pixel_ranges(subpage, AccessPattern::Chess).collect();
+        assert_eq!(chess.len(), 1);
+        assert_eq!(chess[0].start_address, Address::new(0x0400));
+        assert_eq!((chess[0].buffer_offset, chess[0].length), (0, 1536));
+        let mut iterator = Mlx90640::pixel_ranges(subpage, AccessPattern::Interleave);
+        assert_eq!(iterator.len(), 12);
+        for number in 0..12 {
+            let range = iterator.next().unwrap();
+            let one = subpage as usize;
+            assert_eq!(usize::from(range.start_address), 0x0400 + 64 * number + 32 * one);
+            assert_eq!((range.buffer_offset, range.length), (128 * number + 64 * one, 64));
+            assert_eq!(Mlx90640::pixel_range(subpage, AccessPattern::Interleave, number), Ok(range));
+        }
+        assert_eq!(iterator.next(), None);
+        assert_eq!(iterator.next(), None);
+        assert_eq!(Mlx90640::pixel_range(subpage, AccessPattern::Interleave, 12).unwrap_err().number(), 12);
+        assert_eq!(Mlx90640::pixel_range(subpage, AccessPattern::Chess, 1).unwrap_err().number(), 12);
+    }
+    assert_eq!(Mlx90640::compensation_pixel(Subpage::Zero), RamAddress::CompensationPixelZero.into());
+    assert_eq!(u16::from(Mlx90640::compensation_pixel(Subpage::One)), 0x0728);
+    assert_eq!(format!("{:?}", Address::from(0x0400)), "Address(0x400)");
+    assert_eq!(u16::from(RamAddress::End), 0x073F);
+    assert_eq!((Mlx90640::WIDTH, Mlx90640::HEIGHT, Mlx90640::NUM_PIXELS), (32, 24, 768));
+    assert_eq!(u16::from(Mlx90640::T_A_V_BE), 0x0700);
+    assert_eq!(u16::from(Mlx90640::T_A_PTAT), 0x0720);
+    assert_eq!(u16::from(Mlx90640::GAIN), 0x070A);
+    assert_eq!(u16::from(Mlx90640::V_DD_PIXEL), 0x072A);
+    assert_eq!((Mlx90640::BASIC_TEMPERATURE_RANGE, Mlx90640::SELF_HEATING), (1, 8.0));
+}
+
+#[test]
+fn resolutions() {
+    for calibrated in 0..16u8 {
+        for current in 0..16u8 {
+            let expected = 2f32.powi(i32::from(calibrated) - i32::from(current));
+            assert_eq!(Mlx90640::resolution_correction(calibrated, current), Ok(expected));
+        }
+    }
+    for (calibrated, current) in [(16, 0), (0, 16), (255, 255)] {
+        let refusal = Mlx90640::resolution_correction(calibrated, current).unwrap_err();
+        assert_eq!(parts(refusal), (13, 0, 0));
+    }
+    assert_eq!(lent::resolution_correction(u32::MAX, 0).unwrap_err().number(), 13);
+    assert_eq!(lent::resolution_correction(256, 0).unwrap_err().number(), 13);
+}
+
+#[test]
+fn numbers_and_orders_of_the_interface() {
+    let record = *calibration(&[(0x2435, 0x0841)]).record();
+    let short = &record[..121];
+    for bad in [2, 256, u32::MAX] {
+        assert_eq!(lent::pixel_in_subpage(bad, 0, 0).unwrap_err().number(), 14);
+        assert_eq!(lent::pixel_in_subpage(0, bad, 768).unwrap_err().number(), 14);
+        assert_eq!(lent::pixel_range_count(bad).unwrap_err().number(), 14);
+        assert_eq!(lent::pixel_range(bad, 0, 12).unwrap_err().number(), 14);
+        assert_eq!(lent::pixel_range(0, bad, 12).unwrap_err().number(), 14);
+        assert_eq!(lent::compensation_pixel(bad).unwrap_err().number(), 14);
+        assert_eq!(lent::interleave_correction_pixel(short, bad, 768).unwrap_err().number(), 14);
+        assert_eq!(lent::interleave_correction_cp(short, bad, 0).unwrap_err().number(), 14);
+        assert_eq!(lent::interleave_correction_cp(short, 0, bad).unwrap_err().number(), 14);
+        assert_eq!(lent::alpha_cp(short, bad).unwrap_err().number(), 14);
+        assert_eq!(lent::offset_reference_cp(short, bad).unwrap_err().number(), 14);
+    }
+    assert_eq!((lent::pixel_range_count(0), lent::pixel_range_count(1)), (Ok(12), Ok(1)));
+    for slice in [short, &[]] {
+        assert_eq!(lent::k_v_pixel(slice, 768).unwrap_err().number(), 11);
+        assert_eq!(lent::k_v_pixel(slice, 767).unwrap_err().number(), 2);
+        for pattern in 0..2 {
+            assert_eq!(lent::interleave_correction_pixel(slice, pattern, 768).unwrap_err().number(), 11);
+            assert_eq!(lent::interleave_correction_pixel(slice, pattern, 0).unwrap_err().number(), 2);
+            for subpage in 0..2 {
+                assert_eq!(lent::interleave_correction_cp(slice, pattern, subpage).unwrap_err().number(), 2);
+            }
+        }
+        for subpage in 0..2 {
+            assert_eq!(lent::alpha_cp(slice, subpage).unwrap_err().number(), 2);
+            assert_eq!(lent::offset_reference_cp(slice, subpage).unwrap_err().number(), 2);
+        }
+    }
+    assert_eq!(calibration(&[]).k_v_pixel(768).unwrap_err().number(), 11);
+    assert_eq!(
+        calibration(&[]).access_pattern_compensation_pixel(768, AccessPattern::Chess).unwrap_err().number(),
+        11
+    );
+    let mut long = record.to_vec();
+    long.push(0);
+    assert_eq!(lent::interleave_correction_pixel(&long, 0, 3), Ok(Some(-0.625)));
+    assert_eq!(lent::interleave_correction_pixel(&long, 1, 3), Ok(None));
+    assert_eq!(lent::interleave_correction_cp(&long, 0, 1), Ok(Some(0.0625)));
+    // Bytes that no call wrote: a NaN is read as the one NaN.
+    let odd = [0xFF; 122];
+    assert_eq!(lent::k_v_pixel(&odd, 0).unwrap().to_bits(), 0x7FC0_0000);
+    assert_eq!(lent::alpha_cp(&odd, 1).unwrap().to_bits(), 0x7FC0_0000);
+    assert_eq!(lent::interleave_correction_pixel(&odd, 0, 0).unwrap().unwrap().to_bits(), 0x7FC0_0000);
+    assert_eq!(lent::offset_reference_cp(&odd, 1), Ok(-1));
+}
+
+#[test]
+fn answer_words() {
+    // The bits of an answer, with nothing in between. SAFETY: numbers alone, and slices that live through the call.
+    unsafe {
+        assert_eq!(sys::mofuleka_pixel_range_count(0), 12 << 16);
+        assert_eq!(sys::mofuleka_pixel_range_count(2), 14);
+        assert_eq!(sys::mofuleka_pixel_range(0, 1, 11), 0x06E0_05C0_0040 << 16);
+        assert_eq!(sys::mofuleka_pixel_in_subpage(1, 1, 1), 1 << 16);
+        let fresh = Gathering::new();
+        let bytes = fresh.as_bytes();
+        assert_eq!(sys::mofuleka_gathering_status(bytes.as_ptr(), bytes.len()), 832 << 32);
+        let bad = image(&[(0x2421, 0x8000), (0x2428, 0xF000)]);
+        let mut l = ([0u8; 1536], [0u8; 3072], [0u8; 3072], [0u8; 122]);
+        let answer = sys::mofuleka_from_data(
+            bad.as_ptr(),
+            bad.len(),
+            l.0.as_mut_ptr(),
+            1536,
+            l.1.as_mut_ptr(),
+            3072,
+            l.2.as_mut_ptr(),
+            3072,
+            l.3.as_mut_ptr(),
+            122,
+        );
+        assert_eq!(answer, 0x0003_0104);
+    }
+}
+
+#[test]
+fn messages() {
+    let text = |words: &[(usize, u16)]| Calibration::from_data(&image(words)).unwrap_err().to_string();
+    assert_eq!(
+        text(&[(0x2411, 0x7FFF), (0x2413, 0x0010)]),
+        "offset table, pixel 160: a running sum leaves 16 bits (refusal 4)"
+    );
+    assert_eq!(
+        text(&[(0x2420, 0x00F0), (0x2429, 0x0010)]),
+        "alpha table, pixel 5: a scaled term is outside 16 bits (refusal 3)"
+    );
+    assert!(text(&[(0x2438, 0x000F), (0x2440 + 767, 0x0002)]).starts_with("Kta table, pixel 767: "));
+    let mut all = HashSet::new();
+    let mut seen = |refusal: Refusal| {
+        let error: Box<dyn std::error::Error> = Box::new(refusal);
+        assert!(error.to_string().ends_with(&format!(" (refusal {})", refusal.number())));
+        assert_ne!(refusal.reason(), Reason::Unknown);
+        all.insert((refusal.number(), error.to_string()));
+    };
+    let record = [0u8; 122];
+    let mut gathering = Gathering::new();
+    seen(Calibration::from_data(&[]).unwrap_err());
+    seen(lent::gathering_status(&[]).unwrap_err());
+    seen(Calibration::from_data(&image(&[(0x2410, 0x0F00), (0x2412, 1)])).unwrap_err());
+    seen(Calibration::from_data(&image(&[(0x2411, 0x7FFF), (0x2413, 0x10)])).unwrap_err());
+    seen(gathering.accept(&[]).unwrap_err());
+    seen(gathering.accept(&[0, 0]).unwrap_err());
+    seen(gathering.accept(&[0, 5, 0, 0, 0, 0, 0]).unwrap_err());
+    seen(gathering.accept(&[0, 5, 1, 3, 0x40, 0, 0]).unwrap_err());
+    seen(gathering.calibration().unwrap_err());
+    gathering.accept(&block(5, &[1])).unwrap();
+    gathering.accept(&block(5, &[2])).unwrap();
+    seen(gathering.calibration().unwrap_err());
+    seen(lent::k_v_pixel(&record, 768).unwrap_err());
+    seen(lent::pixel_range(0, 0, 12).unwrap_err());
+    seen(lent::resolution_correction(16, 0).unwrap_err());
+    seen(lent::compensation_pixel(2).unwrap_err());
+    assert_eq!(all.len(), 14);
+}
+
+#[test]
+fn names_of_the_original_crate() {
+    use mofuleka::mlx90640::Mlx90640Calibration;
+    let calibration = Mlx90640Calibration::from_data(&image(&[])).unwrap();
+    assert_eq!(calibration.alpha_ptat(), 8.0);
+    let _: mofuleka::common::Address = mofuleka::mlx90640::Mlx90640::compensation_pixel(mofuleka::register::Subpage::One);
+}
+
+#[test]
+fn shared_between_threads() {
+    let c = calibration(&[(0x2434, 0x1234), (0x2435, 0x0841)]);
+    let sums: Vec<f32> = std::thread::scope(|scope| {
+        let threads: Vec<_> = (0..4)
+            .map(|_| {
+                scope.spawn(|| {
+                    c.k_v_pixels(Subpage::Zero).sum::<f32>()
+                        + c.access_pattern_compensation_pixels(AccessPattern::Interleave)
+                            .map(|x| *x.unwrap())
+                            .sum::<f32>()
+                })
+            })
+            .collect();
+        threads.into_iter().map(|thread| thread.join().unwrap()).collect()
+    });
+    assert!(sums.iter().all(|sum| *sum == sums[0]));
+}
