@@ -1,0 +1,5 @@
+pub mod Lists
+pub mod Cells
+pub mod Blocks
+pub mod State
+pub mod History
