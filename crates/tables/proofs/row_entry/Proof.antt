@@ -31,9 +31,9 @@ module _ (c : tie.After-plus-times-arg2) where
 returns : tie.Need-returns
 returns c =
     let d = c .before in
-    let own = d .before .before .remainder in
+    let own = d .before .before .i16-from-bits in
     back32 (c .plus-times .result) (c .plus-times .ok)
-    ∙ rw (part-is d, toZ-ofZ (part-fits d), back16 (own .result) (own .ok), own .ensures) at (c .plus-times .ensures)
+    ∙ rw (part-is d, toZ-ofZ (part-fits d), back16 (own .result) (own .ok), own .ensures .0) at (c .plus-times .ensures)
 
 pub row-entry-spec : {M : Type 1} → statement M
 row-entry-spec =
