@@ -22,7 +22,7 @@ use Rattle.walk.specs.Parts.{average, rowTerm, columnTerm, remainderTerm, rowSu
 use Rattle.walk.specs.Walk.{Step, firstOutside, AllInside, bulkSteps, pixelSteps, walk}
 use Rattle.walk.proofs.Meaning.{accepted-inside, walk-calm}
 use Rattle.tables.specs.Tab.{tab}
-use Rattle.tables.specs.Rows.{columnPart, rowEntry, PartsFit, EntriesFit, EntriesExact, RowsFit, ColumnsFit}
+use Rattle.tables.specs.Rows.{columnPart, rowEntry, PartsFit, TermsFit, EntriesFit, EntriesExact, RowsFit, ColumnsFit}
 use Rattle.tables.proofs.Filled.{tab-at, tab-same}
 
 -- what offset and alpha share of a pixel's steps
@@ -52,9 +52,9 @@ module _ (w : ℕ → ℕ) (e : firstOutside (walk w) ≡ None) where
       let s = steps Alpha p h in
       record { row = s .0; row-sum = s .1 .0; column = s .1 .1 .0; column-sum = s .1 .1 .1 .0; rest = s .1 .1 .1 .1 .0 }
 
-  pub kta-inside : (p : ℕ) → p < 768 → in16 (ktaSum w p) ≡ true
+  pub kta-inside : (p : ℕ) → p < 768 → (in16 (ktaTerm w p) ≡ true) × (in16 (ktaSum w p) ≡ true)
   unfolding pixelSteps AllInside
-  kta-inside p h = steps Kta p h .1 .0
+  kta-inside p h = let s = steps Kta p h in (s .0, s .1 .0)
 
 small : (z : ℤ) → in16 z ≡ true → mag z < 32768
 small z e = ltb-true (mag z) 32768 e
@@ -105,6 +105,9 @@ module _ (w : ℕ → ℕ) (base low : ℕ) (all : AllPixels w base low) where
     pub parts-fit : PartsFit rows columns
     parts-fit r c hr hc = rw (part-is r c hr hc) (all (32 * r + c) (omega arith) .column-sum)
 
+    pub terms-fit : TermsFit w low 6 power
+    terms-fit r c hr hc = rw ep (all (32 * r + c) (omega arith) .rest)
+
     pub entries-exact : EntriesExact w rows columns low 6 power
     unfolding wholeSum
     entries-exact r c hr hc =
@@ -151,8 +154,11 @@ module _ (w : ℕ → ℕ) (columns : List ℤ) (power : ℕ) (ec : columns ≡ 
       rw (kta-part r c hr hc)
       (lt-ltb (mag (byWeight 128 v)) 32768 (omega (arith, signed-below 128 v (field-below x (8 * (1 - k % 2)) 8 (lit< tt)))))
 
+  pub kta-terms-fit : firstOutside (walk w) ≡ None → TermsFit w 1 3 power
+  kta-terms-fit e r c hr hc = rw ep (kta-inside w e (32 * r + c) (omega arith) .0)
+
   pub kta-exact : firstOutside (walk w) ≡ None → EntriesExact w zeros columns 1 3 power
-  kta-exact e r c hr hc = rw (kta-entry r c hr hc) (exact-one (ktaSum w (32 * r + c)) (kta-inside w e (32 * r + c) (omega arith)))
+  kta-exact e r c hr hc = rw (kta-entry r c hr hc) (exact-one (ktaSum w (32 * r + c)) (kta-inside w e (32 * r + c) (omega arith) .1))
 
   pub kta-at : (p : ℕ) → p < 768 → rowEntry w zeros columns 1 3 power (p / 32) (p % 32) ≡ ktaSum w p
   kta-at p h =

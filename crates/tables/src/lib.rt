@@ -11,7 +11,7 @@ use walk::nibble_at;
 ghost use mathlib.Core.Path.{_≡_};
 ghost use mathlib.Core.Bool.{true};
 ghost use Prim.Native.Nat.{ℕ, _+_, _*_, _/_, _%_, _^_, _<_, _≤_};
-ghost use lib.IntN.{pos, natAbs, _+ℤ_, _*ℤ_};
+ghost use lib.IntN.{pos, _*ℤ_};
 ghost use lib.ListN.{length};
 ghost use Rattle.refusal.specs.declared.Refusal.the-variants.{None};
 ghost use Rattle.exact.specs.Dyadic.{dyadic, twoTo};
@@ -21,14 +21,14 @@ ghost use Rattle.walk.specs.Parts.{rowSum, columnTerm, ktaAverage};
 ghost use Rattle.walk.specs.Walk.{walk, firstOutside};
 ghost use Rattle.tables.specs.Tab.{tab, written};
 ghost use Rattle.tables.specs.Entries.{offsetAt, alphaAt, ktaAt};
-ghost use Rattle.tables.specs.Rows.{rowEntry, PartsFit, EntriesFit, EntriesExact, RowsFit, ColumnsFit};
+ghost use Rattle.tables.specs.Rows.{rowEntry, PartsFit, TermsFit, EntriesFit, EntriesExact, RowsFit, ColumnsFit};
 
-// a + f x power.
-fn plus_times(a: i16, f: i16, power: u16) -> i32
-    requires { ⌜ power ≤ 32768 ⌝ }
-    ensures { λ r. ⌜ r ≡ a +ℤ f *ℤ pos power ⌝ }
+// f x power.
+fn times(f: i16, power: u16) -> i16
+    requires { ⌜ (power ≤ 32768) × (in16 (f *ℤ pos power) ≡ true) ⌝ }
+    ensures { λ r. ⌜ r ≡ f *ℤ pos power ⌝ }
 {
-    (a as i32) + (f as i32) * (power as i32)
+    ((f as i32) * (power as i32)) as i16
 }
 
 // The whole sum of column c of row r of a table.
@@ -42,11 +42,11 @@ fn row_entry(
     r: usize,
     c: usize,
 ) -> i32
-    requires { ⌜ (r < 24) × (c < 32) × (power ≤ 32768) × PartsFit (now rows) (now columns) ⌝ }
+    requires { ⌜ (r < 24) × (c < 32) × (power ≤ 32768) × PartsFit (now rows) (now columns) × TermsFit (listed (now words)) low width power ⌝ }
     ensures { λ s. ⌜ s ≡ rowEntry (listed (now (words .entry))) (now (rows .entry)) (now (columns .entry)) low width power r c ⌝ }
 {
     let own = i16_from_bits(words[0x40 + (32 * r + c)], low, width);
-    plus_times(rows[r] + columns[32 * (r % 2) + c], own, power)
+    sum(rows[r] + columns[32 * (r % 2) + c], times(own, power))
 }
 
 // Row r of the offset table.
@@ -58,7 +58,7 @@ fn offset_row(
     r: usize,
     out: &mut [i16],
 )
-    requires { ⌜ (r < 24) × (power ≤ 32768) × (length (now out) ≡ 32) × PartsFit (now rows) (now columns) × EntriesFit (listed (now words)) (now rows) (now columns) power ⌝ }
+    requires { ⌜ (r < 24) × (power ≤ 32768) × (length (now out) ≡ 32) × PartsFit (now rows) (now columns) × TermsFit (listed (now words)) 10 6 power × EntriesFit (listed (now words)) (now rows) (now columns) power ⌝ }
     ensures { λ _. ⌜ now (out .exit) ≡ tab (rowEntry (listed (now (words .entry))) (now (rows .entry)) (now (columns .entry)) 10 6 power r) 32 ⌝ }
 {
     let mut c = 0;
@@ -76,7 +76,7 @@ fn offset_rows(
     power: u16,
     out: &mut [i16],
 )
-    requires { ⌜ (power ≤ 32768) × (768 ≤ length (now out)) × PartsFit (now rows) (now columns) × EntriesFit (listed (now words)) (now rows) (now columns) power ⌝ }
+    requires { ⌜ (power ≤ 32768) × (768 ≤ length (now out)) × PartsFit (now rows) (now columns) × TermsFit (listed (now words)) 10 6 power × EntriesFit (listed (now words)) (now rows) (now columns) power ⌝ }
     ensures { λ _. ⌜ now (out .exit) ≡ written (λ p. rowEntry (listed (now (words .entry))) (now (rows .entry)) (now (columns .entry)) 10 6 power (p / 32) (p % 32)) (now (out .entry)) ⌝ }
 {
     let mut r = 0;
@@ -99,7 +99,7 @@ fn float_row(
     r: usize,
     out: &mut [f32],
 )
-    requires { ⌜ (r < 24) × (power ≤ 32768) × (length (now out) ≡ 32) × PartsFit (now rows) (now columns) × EntriesExact (listed (now words)) (now rows) (now columns) low width power ⌝ }
+    requires { ⌜ (r < 24) × (power ≤ 32768) × (length (now out) ≡ 32) × PartsFit (now rows) (now columns) × TermsFit (listed (now words)) low width power × EntriesExact (listed (now words)) (now rows) (now columns) low width power ⌝ }
     ensures { λ _. ⌜ ((k : ℕ) → k ≤ 149 → divisor ≡ twoTo (pos k) → now (out .exit) ≡ tab (λ c. dyadic (rowEntry (listed (now (words .entry))) (now (rows .entry)) (now (columns .entry)) low width power r c) k) 32) ⌝ }
 {
     let mut c = 0;
@@ -123,7 +123,7 @@ fn float_rows(
     k: usize,
     out: &mut [f32],
 )
-    requires { ⌜ (power ≤ 32768) × (k < 50) × (768 ≤ length (now out)) × PartsFit (now rows) (now columns) × EntriesExact (listed (now words)) (now rows) (now columns) low width power ⌝ }
+    requires { ⌜ (power ≤ 32768) × (k < 50) × (768 ≤ length (now out)) × PartsFit (now rows) (now columns) × TermsFit (listed (now words)) low width power × EntriesExact (listed (now words)) (now rows) (now columns) low width power ⌝ }
     ensures { λ _. ⌜ now (out .exit) ≡ written (λ p. dyadic (rowEntry (listed (now (words .entry))) (now (rows .entry)) (now (columns .entry)) low width power (p / 32) (p % 32)) k) (now (out .entry)) ⌝ }
 {
     let divisor = up_power(k);

@@ -14,7 +14,7 @@ use Rattle.walk.specs.Parts.{wholeSum}
 use Rattle.tables.specs.Entries.{alphaAt}
 use Rattle.tables.specs.Rows.{rowEntry}
 use Rattle.tables.proofs.Filled.{tab-same}
-use Rattle.tables.proofs.Inside.{Inside, alpha-inside, rows-fit, columns-fit, parts-fit, entries-exact, entry-at}
+use Rattle.tables.proofs.Inside.{Inside, alpha-inside, rows-fit, columns-fit, parts-fit, terms-fit, entries-exact, entry-at}
 use Rattle.tables.proofs.fill_alpha.Statement.{statement}
 use Rattle.tables.proofs.fill_alpha.Tie as tie
 
@@ -32,6 +32,7 @@ float-rows-requires c κs =
       omega (arith, c .before .before .before .u16-from-bits .ensures),
       start .pre .1,
       parts-fit w 0x20 4 (all start) (rows .result) (columns .result) (power .result) (rows .ensures) (columns .ensures) (power .ensures .0),
+      terms-fit w 0x20 4 (all start) (rows .result) (columns .result) (power .result) (rows .ensures) (columns .ensures) (power .ensures .0),
       entries-exact w 0x20 4 (all start) (rows .result) (columns .result) (power .result) (rows .ensures) (columns .ensures) (power .ensures .0),
     )
 

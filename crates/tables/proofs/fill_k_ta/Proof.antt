@@ -14,7 +14,7 @@ use Rattle.walk.specs.Parts.{ktaSum}
 use Rattle.tables.specs.Entries.{ktaAt}
 use Rattle.tables.specs.Rows.{rowEntry}
 use Rattle.tables.proofs.Filled.{tab-same}
-use Rattle.tables.proofs.Inside.{zeros, kta-parts-fit, kta-exact, kta-at}
+use Rattle.tables.proofs.Inside.{zeros, kta-parts-fit, kta-terms-fit, kta-exact, kta-at}
 use Rattle.tables.proofs.fill_k_ta.Statement.{statement}
 use Rattle.tables.proofs.fill_k_ta.Tie as tie
 
@@ -28,6 +28,7 @@ float-rows-requires c κs =
       omega (arith, c .before .before .before .u16-from-bits .ensures),
       start .pre .1,
       kta-parts-fit w (columns .result) (power .result) (columns .ensures) (power .ensures .0),
+      kta-terms-fit w (columns .result) (power .result) (columns .ensures) (power .ensures .0) (start .pre .0),
       kta-exact w (columns .result) (power .result) (columns .ensures) (power .ensures .0) (start .pre .0),
     )
 

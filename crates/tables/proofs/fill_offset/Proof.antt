@@ -9,7 +9,7 @@ use lib.ListN.{drop}
 use lib.IntN.{ℤ}
 use Rattle.util.specs.Words.{listed}
 use Rattle.tables.proofs.Filled.{tab-same}
-use Rattle.tables.proofs.Inside.{Inside, offset-inside, rows-fit, columns-fit, parts-fit, entry-is, entry-at}
+use Rattle.tables.proofs.Inside.{Inside, offset-inside, rows-fit, columns-fit, parts-fit, terms-fit, entry-is, entry-at}
 use Rattle.tables.proofs.fill_offset.Statement.{statement}
 use Rattle.tables.proofs.fill_offset.Tie as tie
 
@@ -26,6 +26,7 @@ offset-rows-requires c κs =
       power .ensures .1,
       start .pre .1,
       parts-fit w 0x10 10 (all start) (rows .result) (columns .result) (power .result) (rows .ensures) (columns .ensures) (power .ensures .0),
+      terms-fit w 0x10 10 (all start) (rows .result) (columns .result) (power .result) (rows .ensures) (columns .ensures) (power .ensures .0),
       λ r k hr hk. rw (entry-is w 0x10 10 (all start) (rows .result) (columns .result) (power .result) (rows .ensures) (columns .ensures) (power .ensures .0) r k hr hk)
           (offset-inside w (start .pre .0) (32 * r + k) (omega arith) .1),
     )

@@ -34,12 +34,12 @@ entry-is : (c : tie.After-row-entry Inv-loop μ-loop)
 entry-is c = back32 (c .row-entry .result) (c .row-entry .ok) ∙ c .row-entry .ensures
 
 row-entry-requires : tie.Need-row-entry-requires Inv-loop μ-loop
-row-entry-requires c κs = let start = c .before .before .before in (start .pre .0, c .loop-test .taken, start .pre .1, start .pre .3)
+row-entry-requires c κs = let start = c .before .before .before in (start .pre .0, c .loop-test .taken, start .pre .1, start .pre .3, start .pre .4)
 
 over-requires : tie.Need-over-requires Inv-loop μ-loop
 over-requires c κs =
     let start = c .before .before .before .before in
-    rw (entry-is c) (start .pre .4 (start .args .r) (c .before .before .loop .c) (start .pre .0) (c .before .loop-test .taken))
+    rw (entry-is c) (start .pre .5 (start .args .r) (c .before .before .loop .c) (start .pre .0) (c .before .loop-test .taken))
 
 loop-again : tie.Need-loop-again Inv-loop μ-loop
 loop-again c =

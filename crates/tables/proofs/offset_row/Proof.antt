@@ -33,10 +33,10 @@ entry-is c = back32 (c .row-entry .result) (c .row-entry .ok) ∙ c .row-entry .
 entry-fits : (c : tie.After-row-entry Inv-loop μ-loop) → SFits w16 (toZ w32 (ofZ w32 (c .row-entry .result)))
 entry-fits c =
     let start = c .before .before .before in
-    rw (entry-is c) (fits-16 (start .pre .4 (start .args .r) (c .before .before .loop .c) (start .pre .0) (c .before .loop-test .taken)))
+    rw (entry-is c) (fits-16 (start .pre .5 (start .args .r) (c .before .before .loop .c) (start .pre .0) (c .before .loop-test .taken)))
 
 row-entry-requires : tie.Need-row-entry-requires Inv-loop μ-loop
-row-entry-requires c κs = let start = c .before .before in (start .pre .0, c .loop-test .taken, start .pre .1, start .pre .3)
+row-entry-requires c κs = let start = c .before .before in (start .pre .0, c .loop-test .taken, start .pre .1, start .pre .3, start .pre .4)
 
 loop-again : tie.Need-loop-again Inv-loop μ-loop
 loop-again c =

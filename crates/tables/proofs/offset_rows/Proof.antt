@@ -33,7 +33,7 @@ offset-row-requires c κs =
     let at-loop = c .before .before in
     let start = at-loop .before in
     let r = at-loop .loop .r in
-    (c .before .loop-test .taken, start .pre .0, simp (length-take, length-drop) (omega (arith, long at-loop, c .before .loop-test .taken, start .pre .1)), start .pre .2, start .pre .3)
+    (c .before .loop-test .taken, start .pre .0, simp (length-take, length-drop) (omega (arith, long at-loop, c .before .loop-test .taken, start .pre .1)), start .pre .2, start .pre .3, start .pre .4)
 
 loop-again : tie.Need-loop-again Inv-loop μ-loop
 loop-again c =
