@@ -7,18 +7,24 @@ use mathlib.Core.Logic.{_↔_}
 use mathlib.Core.List.{List, List·Memᴰ}
 use native.Mathlib.Decide.{ℕ-discrete}
 use native.Mathlib.Omega.{arith}
-use lib.Dec.{eqb}
-use lib.ListN.{getD}
+use borrow.Author.Tests.{ltb-true, le-ltb}
+use lib.Dec.{eqb, leb, ltb}
+use lib.ListN.{length, getD}
 use Rattle.util.specs.Words.{wordAt}
+use Rattle.tables.proofs.Filled.{tab-length}
+use Rattle.eeprom.specs.Image.{imageWords}
+use Rattle.eeprom.specs.Decoding.{refusalOf, decodedOf, tableAfter}
+use Rattle.eeprom.specs.declared.Decoded.{Decoded}
 use Rattle.refusal.specs.declared.Refusal.the-variants.{None}
 use Rattle.gathering.specs.Cells.{Cell, missing, held, conflict, cellOf, valueOf, joined, isMissing, inConflict}
-use Rattle.gathering.specs.Blocks.{readBlock, carriedIn, carriedBy, refusalIn, refusalOf}
+use Rattle.gathering.specs.Blocks.{readBlock, carriedIn, carriedBy, refusalIn, blockRefusal}
 use Rattle.gathering.specs.State.{cellAt, merged, Full, Agreed, faultFrom, faultOf, bytesOf}
+use Rattle.gathering.specs.Decoding.{gatheredWords, calibrationOf}
 use Rattle.gathering.specs.History.{History, Carried, Rule, StateOf, Run, start, takes, joins, From}
 use Rattle.gathering.specs.declared.Block.{Block}
 use Rattle.gathering.specs.declared.Block.the-variants.{Words, Refused}
 use Rattle.gathering.specs.declared.Gathering.{Gathering}
-use Rattle.gathering.proofs.Bytes.{word-of-bytes}
+use Rattle.gathering.proofs.Bytes.{word-of-bytes, length-bytes}
 use Rattle.gathering.proofs.Cells.{joined-comm, same, differ}
 use Rattle.gathering.proofs.History.{fresh-is, accept-is, merge-is, one-state}
 use Rattle.gathering.proofs.Lists.{count-zero, lowest-none}
@@ -31,11 +37,11 @@ run-obeys (takes {g} {h} b r) = accept-is h g b (run-obeys r)
 run-obeys (joins {g} {k} {h} {j} r s) = merge-is h j g k (run-obeys r) (run-obeys s)
 
 -- what is carried, an accepted block carries
-carried-accepted : (b : List ℕ) (w v : ℕ) (k : Block) → readBlock b ≡ k → carriedIn k b w ≡ held v → refusalOf b ≡ None
+carried-accepted : (b : List ℕ) (w v : ℕ) (k : Block) → readBlock b ≡ k → carriedIn k b w ≡ held v → blockRefusal b ≡ None
 carried-accepted b w v (Words first count) e c = ap refusalIn e
 carried-accepted b w v (Refused why) e c = let z : _≡_ {A = ℕ} 0 1 = cc in absurd (omega arith)
 
-accepted-move : (h k : History) → ((b : List ℕ) → refusalOf b ≡ None → List·Memᴰ b h → List·Memᴰ b k) → (w v : ℕ) → Carried h w v → Carried k w v
+accepted-move : (h k : History) → ((b : List ℕ) → blockRefusal b ≡ None → List·Memᴰ b h → List·Memᴰ b k) → (w v : ℕ) → Carried h w v → Carried k w v
 accepted-move h k f w v c = record {
   block = c .block;
   among = f (c .block) (carried-accepted (c .block) w v (readBlock (c .block)) refl (c .says)) (c .among);
@@ -43,7 +49,7 @@ accepted-move h k f w v c = record {
 }
 
 -- viewers that accepted the same blocks, in any order and any number of times, hold equal gatherings
-pub same-blocks : (h k : History) (g j : Gathering) → StateOf h g → StateOf k j → ((b : List ℕ) → refusalOf b ≡ None → List·Memᴰ b h ↔ List·Memᴰ b k) → g ≡ j
+pub same-blocks : (h k : History) (g j : Gathering) → StateOf h g → StateOf k j → ((b : List ℕ) → blockRefusal b ≡ None → List·Memᴰ b h ↔ List·Memᴰ b k) → g ≡ j
 same-blocks h k g j s t e = one-state h k g j (accepted-move h k (λ b a. e b a .0)) (accepted-move k h (λ b a. e b a .1)) s t
 
 -- merging is the same either way round, of any two states
@@ -101,3 +107,31 @@ image-faultless image h g s f full =
     ap₂ faultFrom
     (lowest-none 832 (λ w. inConflict (cellAt g w)) (λ w l. ap inConflict (image-held image h g s f full w l)))
     (lowest-none 832 (λ w. isMissing (cellAt g w)) (λ w l. ap isMissing (image-held image h g s f full w l)))
+
+-- and it answers just as that image does: the same record and refusals, and the same tables
+agreed-words : (a b : List ℕ) → ((w : ℕ) → w < 832 → wordAt a w ≡ wordAt b w) → imageWords a ≡ imageWords b
+unfolding imageWords
+agreed-words a b e = λ i n. at n (ltb n 832) refl i
+  where
+    at : (n : ℕ) (t : Bool) → ltb n 832 ≡ t → cond (leb 16 n) (cond (ltb n 832) (wordAt a n) 0) 0 ≡ cond (leb 16 n) (cond (ltb n 832) (wordAt b n) 0) 0
+    at n true h = ap (λ (x : ℕ). cond (leb 16 n) (cond (ltb n 832) x 0) 0) (e n (ltb-true n 832 h))
+    at n false h = rw h
+
+state-bytes : (h : History) (g : Gathering) → StateOf h g → length (bytesOf (g .values)) ≡ 1664
+state-bytes h g s =
+    let values : length (g .values) ≡ 832 = ap (λ (t : Gathering). length (t .values)) (s .written) ∙ tab-length (λ w. valueOf (cellAt g w)) 832 in
+    omega (arith, length-bytes (g .values))
+
+pub one-image : (image : List ℕ) (h : History) (g : Gathering) → StateOf h g → From image h → Full g → 1664 ≤ length image
+    → (gatheredWords g ≡ imageWords image) × ((l m n : ℕ) → calibrationOf g l m n ≡ decodedOf image l m n)
+unfolding decodedOf refusalOf
+one-image image h g s f full long =
+    let words : gatheredWords g ≡ imageWords image = agreed-words (bytesOf (g .values)) image (image-words image h g s f full) in
+    (words, λ l m n. rw (image-faultless image h g s f full, le-ltb (length (bytesOf (g .values))) 1664 (omega (arith, state-bytes h g s)), le-ltb (length image) 1664 long, words))
+
+pub one-image-tables : (image : List ℕ) (h : History) (g : Gathering) → StateOf h g → From image h → Full g → 1664 ≤ length image
+    → {A : Type 0} (entries : (ℕ → ℕ) → ℕ → A) (table : List A) (l m n : ℕ)
+    → tableAfter (calibrationOf g l m n .refusal) (entries (gatheredWords g)) table ≡ tableAfter (decodedOf image l m n .refusal) (entries (imageWords image)) table
+one-image-tables image h g s f full long entries table l m n =
+    let same = one-image image h g s f full long in
+    ap₂ (λ (d : Decoded) (w : ℕ → ℕ). tableAfter (d .refusal) (entries w) table) (same .1 l m n) (same .0)

@@ -55,8 +55,8 @@ abbrev pub refusalIn : Block → Refusal
 refusalIn (Words first count) = None
 refusalIn (Refused why) = why
 
-abbrev pub refusalOf : List ℕ → Refusal
-refusalOf b = refusalIn (readBlock b)
+abbrev pub blockRefusal : List ℕ → Refusal
+blockRefusal b = refusalIn (readBlock b)
 
 -- what `count` words from `first` on, behind the first word's number in a body, say of word w
 abbrev pub carriedAt : List ℕ → ℕ → ℕ → ℕ → Cell
