@@ -1,7 +1,7 @@
--- The record agrees with the datasheet: its masks are the scope's fields. Two numbers differ, the ambient factor and the gradient, and for each it is said exactly when.
+-- The record agrees with the datasheet, since a mask and a shift are a field. alpha_ptat and the gradient, which differ, are in Differences.antt, and the six corrections of pixels in Interleave.antt.
 -- Assumes nothing.
-use mathlib.Core.Path.{_≡_, refl, sym, ap, _∙_}
-use mathlib.Core.List.{List, [], _∷_, map}
+use mathlib.Core.Path.{_≡_, refl, sym, ap}
+use mathlib.Core.List.{[], _∷_, map}
 use Prim.Native.Nat.{ℕ, zero, suc, _+_, _-_, _*_, _/_, _%_, _^_, _<_}
 use native.Mathlib.Nat.{mul-comm}
 use native.Mathlib.Omega.{arith}
@@ -11,7 +11,7 @@ use lib.IntN.{ℤ, pos}
 use lib.ListN.{getD}
 use lib.Ieee.{nan}
 use Rattle.util.specs.Words.{field, sign, signedField}
-use Rattle.record.specs.Fraction.{Fraction, _/2^_, float}
+use Rattle.record.specs.Fraction.{_/2^_, float}
 use Rattle.record.specs.Fields.{recordOf, kVScale, kVDd, vDd25, resolutionOf, kVPtat, kTPtat, vPtat25, gainOf, kSTa, corners, kSTo, alphaCp, offsetReferenceCp, kVPattern, kVCp, kTaCp, interleaveCp}
 use Rattle.record.specs.Questions.{chessboard}
 use Rattle.record.specs.Datasheet as D
@@ -36,7 +36,7 @@ by-parity p a b c d k =
     go (suc zero) (suc (suc s)) h l = absurd (omega arith)
     go (suc (suc r)) s h l = absurd (omega arith)
 
--- r holds the datasheet's numbers of the words EE
+-- r holds the datasheet's numbers for the words EE
 pub record Agrees (EE : ℕ → ℕ) (r : Record) : Type 0 where
   pub k-v-dd : r .«k_v_dd» ≡ D.K-Vdd EE
   pub v-dd-25 : r .«v_dd_25» ≡ D.Vdd25 EE

@@ -6,6 +6,7 @@ use mathlib.Core.List.{List, [], _∷_}
 use Prim.Native.Nat.{ℕ, zero, suc, _+_, _-_, _*_, _/_, _%_, _<_}
 use native.Mathlib.Nat.{mul-one, zero-mul, zero-add}
 use native.Mathlib.Omega.{arith}
+use borrow.Author.Tests.{lt-ltb}
 use lib.Dec.{eqb}
 use lib.IntN.{ℤ, pos, negsuc, negℤ, _+ℤ_, _-ℤ_, _*ℤ_, +ℤ-idr, +ℤ-invr, +ℤ-comm, +ℤ-negℤ-cancel, negℤ-negℤ, negℤ-+ℤ, *ℤ-zero, *ℤ-negsuc}
 use lib.ListN.{getD}
@@ -16,8 +17,12 @@ use Rattle.exact.specs.Dyadic.{dyadic, minusZero}
 use Rattle.exact.proofs.Exact.{neg-positive, neg-negative, neg-zero}
 use Rattle.exact.proofs.Values.{zero-is}
 use Rattle.record.specs.Fraction.{Fraction, _/2^_, float}
-use Rattle.record.specs.Fields.{A, B, C, interleaveSix, plusZero}
-use Rattle.record.specs.Questions.{sixPlace}
+use Rattle.record.specs.Fields.{A, B, C, interleaveSix, recordOf, plusZero}
+use Rattle.record.specs.Questions.{sixPlace, correctionAnswer}
+use Rattle.record.specs.declared.Optional.the-variants.{Given}
+use Rattle.refusal.specs.declared.Refusal.the-variants.{None}
+use Rattle.camera.specs.Masks.{row, column}
+use Rattle.camera.specs.declared.AccessPattern.the-variants.{Interleave}
 use Rattle.record.specs.Datasheet as D
 use Rattle.record.proofs.Masks.{masked}
 
@@ -160,15 +165,23 @@ module _ (a d : ℤ) where
   six (suc zero) (suc (suc (suc (suc r)))) h k = absurd (omega arith)
   six (suc (suc il)) r h k = absurd (omega arith)
 
--- ---- THE LAW: pixel p's entry of the six is the datasheet's correction of p
+-- ---- THE LAW: pixel p's entry of the six is the datasheet's correction of p. The record negates at the places 0, 2 and 4
 pub corrected : (w : ℕ → ℕ) (p : ℕ) → Corrected (eqb (sixPlace p % 2) 0) (getD (interleaveSix w) (sixPlace p) nan) (D.correction (D.addressed w) p)
 unfolding interleaveSix A B C D.correction D.IL-CHESS-C2 D.IL-CHESS-C3
 corrected w p =
-    let il = p / 32 % 2 in
-    let r = p % 32 % 4 in
+    let il = row p % 2 in
+    let r = column p % 4 in
     let x = w 0x35 in
     let a = sign 5 (field x 11 5) in
     let d = sign 5 (field x 6 5) in
     subst (λ (z : ℤ). Corrected (eqb (placeOf il r % 2) 0) (getD (sixOf a d) (placeOf il r) nan) (z /2^ 3))
     (λ i. numeratorOf (sign 5 (sym (masked x 11 5) i)) (sign 5 (sym (masked x 6 5) i)) il (sym (turns p r (omega arith)) i))
     (six a d il r (omega arith) (omega arith))
+
+-- and so the answer for each pixel in Interleave
+pub interleaved : (w : ℕ → ℕ) (p : ℕ) → p < 768
+    → (x : Float)
+    × (correctionAnswer (recordOf w) Interleave p ≡ record { refusal = None; correction = Given x })
+    × Corrected (eqb (sixPlace p % 2) 0) x (D.correction (D.addressed w) p)
+unfolding correctionAnswer recordOf
+interleaved w p h = (getD (interleaveSix w) (sixPlace p) nan, rw (lt-ltb p 768 h), corrected w p)

@@ -4,7 +4,7 @@ ghost use mathlib.Core.Path.{_≡_};
 ghost use Prim.Native.Nat.{_+_, _-_, _*_, _^_, _<_, _≤_};
 ghost use lib.ListN.{getD, length};
 ghost use lib.Seq.{sets};
-ghost use lib.IntN.{_+ℤ_};
+ghost use lib.IntN.{natAbs, _+ℤ_};
 ghost use lib.Signed.{mag};
 ghost use Rattle.util.specs.Words.{wordAt, field, byWeight, clip, signedField};
 ghost use Rattle.util.specs.Sums.{termOf, narrowOf};
@@ -122,6 +122,15 @@ pub fn pattern_of(x: i16) -> u16
     ensures { λ r. ⌜ r ≡ pattern x ⌝ }
 {
     if x < 0 { !((!x) as u16) } else { x as u16 }
+}
+
+// x without its sign.
+pub fn magnitude(x: i16) -> u32
+    ensures { λ r. ⌜ r ≡ natAbs x ⌝ }
+    ensures { λ r. ⌜ r ≤ 32768 ⌝ }
+{
+    let bits = pattern_of(x) as u32;
+    if bits < 32768 { bits } else { 65536 - bits }
 }
 
 // v into the two bytes from place at on.

@@ -1,3 +1,4 @@
 pub mod Order
 pub mod Steps
 pub mod Meaning
+pub mod Bound

@@ -4,15 +4,21 @@ use refusal::Table;
 use refusal::accepted;
 use util::Narrow;
 use util::i16_from_bits;
+use util::magnitude;
 use util::narrowed;
+use util::power_of_two;
 use util::sum;
 use util::term;
+use util::u16_from_bits;
 ghost use mathlib.Core.Path.{_≡_};
-ghost use Prim.Native.Nat.{_+_, _<_, _≤_};
+ghost use mathlib.Core.Bool.{true};
+ghost use Prim.Native.Nat.{ℕ, _+_, _^_, _<_, _≤_};
+ghost use Rattle.refusal.specs.declared.Refusal.the-variants.{None};
 ghost use Rattle.util.specs.Words.{listed, field};
 ghost use Rattle.walk.specs.Parts.{nibble, ktaAverage};
 ghost use Rattle.walk.specs.Walk.{walk, tableSteps, firstOutside};
 ghost use Rattle.walk.specs.Running.{addedOf, nextOf, besideOf, lastOf, bulkOf, pixelOf, orElse};
+ghost use Rattle.walk.specs.Calm.{Reaches, CalmBulk, CalmKta};
 
 // A pixel's running sum, or the fault that it ran into.
 pub enum Running {
@@ -154,11 +160,82 @@ fn or_else(earlier: Refusal, words: &[u16; 832], table: Table) -> Refusal
     }
 }
 
-// The first fault of the walk: offset table, then alpha, then Kta.
-pub fn first_refusal(words: &[u16; 832]) -> Refusal
+// The first fault of the walk, pixel by pixel: offset table, then alpha, then Kta.
+fn search(words: &[u16; 832]) -> Refusal
     ensures { λ r. ⌜ r ≡ firstOutside (walk (listed (now (words .entry)))) ⌝ }
 {
     let offset = table_refusal(words, Table::Offset);
     let alpha = or_else(offset, words, Table::Alpha);
     or_else(alpha, words, Table::Kta)
+}
+
+// 2 to the power that stands in the four bits of word n from bit low up.
+fn scale_power(words: &[u16; 832], n: usize, low: u32) -> u32
+    requires { ⌜ n < 832 ⌝ }
+    ensures { λ r. ⌜ r ≡ 2 ^ field (listed (now (words .entry)) n) low 4 ⌝ }
+    ensures { λ r. ⌜ r ≤ 32768 ⌝ }
+{
+    power_of_two(u16_from_bits(words[n], low, 4) as u32) as u32
+}
+
+// The larger of two numbers.
+fn larger(a: u32, b: u32) -> u32
+    ensures { λ r. ⌜ (a ≤ r) × (b ≤ r) × ((c : ℕ) → a ≤ c → b ≤ c → r ≤ c) ⌝ }
+{
+    if a < b { b } else { a }
+}
+
+// The size of the largest of the first count nibbles of the words from first on.
+fn reach(words: &[u16; 832], first: usize, count: usize) -> u32
+    requires { ⌜ (first < 800) × (count ≤ 32) ⌝ }
+    ensures { λ r. ⌜ Reaches (listed (now (words .entry))) first count r ⌝ }
+{
+    let mut most = 0;
+    let mut k = 0;
+    while k < count {
+        most = larger(most, magnitude(nibble_at(words, first, k)));
+        k += 1;
+    }
+    most
+}
+
+// Whether the average and the largest terms of a table stay in 16 bits together, so that no term and no sum of it can leave them.
+fn calm_bulk(words: &[u16; 832], base: usize) -> bool
+    requires { ⌜ base ≤ 32 ⌝ }
+    ensures { λ r. ⌜ (r ≡ true → CalmBulk (listed (now (words .entry))) base) ⌝ }
+{
+    let average = magnitude(i16_from_bits(words[base + 1], 0, 16));
+    let rows = reach(words, base + 2, 24) * scale_power(words, base, 8);
+    let columns = reach(words, base + 8, 32) * scale_power(words, base, 4);
+    average + rows + columns + 32 * scale_power(words, base, 0) < 32768
+}
+
+// Whether the largest Kta term leaves room for any average.
+fn calm_k_ta(words: &[u16; 832]) -> bool
+    ensures { λ r. ⌜ (r ≡ true → CalmKta (listed (now (words .entry)))) ⌝ }
+{
+    128 + 4 * scale_power(words, 0x38, 0) < 32768
+}
+
+// Whether a glance shows that the walk finds nothing. Every head as it comes from its maker is calm; where one isn't, the walk decides.
+fn calm(words: &[u16; 832]) -> bool
+    ensures { λ r. ⌜ (r ≡ true → firstOutside (walk (listed (now (words .entry)))) ≡ None) ⌝ }
+{
+    if calm_bulk(words, 0x10) {
+        if calm_bulk(words, 0x20) {
+            return calm_k_ta(words);
+        }
+    }
+    false
+}
+
+// The first fault of the walk.
+pub fn first_refusal(words: &[u16; 832]) -> Refusal
+    ensures { λ r. ⌜ r ≡ firstOutside (walk (listed (now (words .entry)))) ⌝ }
+{
+    if calm(words) {
+        Refusal::None
+    } else {
+        search(words)
+    }
 }
