@@ -1,9 +1,12 @@
 -- Numbers and lists of numbers as bytes, the highest byte first.
 -- Assumes nothing.
-use Prim.Native.Nat.{ℕ}
+use Prim.Native.Nat.{ℕ, _<_}
+use mathlib.Core.Bool.{not}
 use mathlib.Core.List.{List, [], _∷_, _++_}
 use lib.IntN.{ℤ}
-use lib.Ieee.{Float, binary32, toBits}
+use lib.Dec.{T}
+use lib.Ieee.{Float, nan, isNan, binary32, toBits}
+use lib.ListN.{length, getD}
 use Rattle.util.specs.Bytes.{two, four, pattern}
 
 -- a signed number's 16 bits, and a float's 32
@@ -23,3 +26,7 @@ shorts s = flat short s
 
 abbrev pub floats : List Float → List ℕ
 floats s = flat float s
+
+-- no number of a list is a NaN
+abbrev pub NoNan : List Float → Type 0
+NoNan s = (i : ℕ) → i < length s → T (not (isNan (getD s i nan)))

@@ -3,8 +3,8 @@ mod fields;
 mod numbers;
 
 pub use fields::put_record;
-pub use numbers::put_f32s;
 pub use numbers::put_i16s;
+pub use numbers::put_table;
 
 // How many bytes each layout has.
 pub const IMAGE_BYTES: usize = 1664;

@@ -6,9 +6,9 @@ use layout::IMAGE_BYTES;
 use layout::K_TA_TABLE_BYTES;
 use layout::OFFSET_TABLE_BYTES;
 use layout::RECORD_BYTES;
-use layout::put_f32s;
 use layout::put_i16s;
 use layout::put_record;
+use layout::put_table;
 use refusal::Refusal;
 use refusal::accepted;
 ghost use mathlib.Core.Path.{_≡_};
@@ -58,8 +58,8 @@ fn decode(
     let refusal = decoded.refusal;
     if accepted(refusal) {
         put_i16s(offset, 0, &offsets);
-        put_f32s(alpha, 0, &alphas);
-        put_f32s(k_ta, 0, &k_tas);
+        put_table(alpha, &alphas);
+        put_table(k_ta, &k_tas);
         put_record(decoded.record, record);
         return refusal;
     }
