@@ -4,3 +4,5 @@ mod answers;
 mod decoding;
 mod reading;
 mod sizes;
+
+pub use decoding::mofuleka_from_data;
