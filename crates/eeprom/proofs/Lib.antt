@@ -1,2 +1,7 @@
 pub mod Answers
 pub mod Words
+pub mod Agreement
+pub mod Datasheet
+pub mod Refusals
+pub mod SameWords
+pub mod OneAnswer

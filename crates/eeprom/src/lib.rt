@@ -9,14 +9,14 @@ use tables::fill_k_ta;
 use tables::fill_offset;
 use walk::first_refusal;
 ghost use mathlib.Core.Path.{_≡_};
-ghost use Prim.Native.Nat.{_≤_};
+ghost use Prim.Native.Nat.{ℕ, _≤_, _<_};
 ghost use lib.ListN.{length};
 ghost use Rattle.util.specs.Words.{listed};
 ghost use Rattle.record.specs.Fields.{blankRecord};
 ghost use Rattle.walk.specs.Walk.{walk, firstOutside};
 ghost use Rattle.tables.specs.Tab.{tab};
 ghost use Rattle.tables.specs.Entries.{offsetAt, alphaAt, ktaAt};
-ghost use Rattle.eeprom.specs.Image.{imageWords};
+ghost use Rattle.eeprom.specs.Image.{imageWords, swapped};
 ghost use Rattle.eeprom.specs.Decoding.{answered, decodedOf, tableAfter};
 
 // A refusal, and the record beside it: blank unless the call was accepted.
@@ -25,15 +25,30 @@ pub struct Decoded {
     pub record: Record,
 }
 
-// The image's words, with zeros for those that are ignored.
+// The image's words with the two bytes of each swapped, and zeros for those that are ignored. So the machine can take the bytes as they lie.
+fn read_pairs(image: &[u8]) -> [u16; 832]
+    requires { ⌜ 1664 ≤ length (now image) ⌝ }
+    ensures { λ r. ⌜ r ≡ tab (λ n. swapped (imageWords (now (image .entry)) n)) 832 ⌝ }
+    ensures { λ r. ⌜ ((n : ℕ) → imageWords (now (image .entry)) n < 65536) ⌝ }
+{
+    let mut pairs = [0; 832];
+    let mut n = 16;
+    while n < 832 {
+        pairs[n] = (image[2 * n] as u16) + (image[2 * n + 1] as u16) * 256;
+        n += 1;
+    }
+    pairs
+}
+
+// The image's words.
 fn read_words(image: &[u8]) -> [u16; 832]
     requires { ⌜ 1664 ≤ length (now image) ⌝ }
     ensures { λ r. ⌜ r ≡ tab (imageWords (now (image .entry))) 832 ⌝ }
 {
-    let mut words = [0; 832];
-    let mut n = 16;
+    let mut words = read_pairs(image);
+    let mut n = 0;
     while n < 832 {
-        words[n] = (image[2 * n] as u16) * 256 + (image[2 * n + 1] as u16);
+        words[n] = words[n] / 256 + words[n] % 256 * 256;
         n += 1;
     }
     words

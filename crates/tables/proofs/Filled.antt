@@ -70,3 +70,10 @@ row-place f r c h =
 
 pub length-put : {A : Type 0} (f : ℕ → A) (n : ℕ) (d : List A) → n ≤ length d → length (tab f n ++ drop n d) ≡ length d
 length-put f n d h = simp (length-append, length-drop, tab-length) (omega arith)
+
+-- what stands just past the front is what lay there before
+pub next-at : {A : Type 0} (f : ℕ → A) (n : ℕ) (d : List A) (z : A) → n ≤ length d → getD (tab f n ++ drop n d) n z ≡ getD d n z
+unfolding tab
+next-at f zero d z h = refl
+next-at f (suc n) [] z h = absurd (not-suc-le-zero h)
+next-at f (suc n) (x ∷ d) z h = next-at (λ k. f (suc k)) n d z (le-of-suc-le-suc h)

@@ -22,7 +22,7 @@ use Rattle.walk.specs.Parts.{average, rowTerm, columnTerm, remainderTerm, rowSu
 use Rattle.walk.specs.Walk.{Step, firstOutside, AllInside, bulkSteps, pixelSteps, walk}
 use Rattle.walk.proofs.Meaning.{accepted-inside, walk-calm}
 use Rattle.tables.specs.Tab.{tab}
-use Rattle.tables.specs.Rows.{remainderIn, columnPart, rowEntry, PartsFit, EntriesFit, EntriesExact, RowsFit, ColumnsFit}
+use Rattle.tables.specs.Rows.{columnPart, rowEntry, PartsFit, TermsFit, EntriesFit, EntriesExact, RowsFit, ColumnsFit}
 use Rattle.tables.proofs.Filled.{tab-at, tab-same}
 
 -- what offset and alpha share of a pixel's steps
@@ -52,9 +52,9 @@ module _ (w : ℕ → ℕ) (e : firstOutside (walk w) ≡ None) where
       let s = steps Alpha p h in
       record { row = s .0; row-sum = s .1 .0; column = s .1 .1 .0; column-sum = s .1 .1 .1 .0; rest = s .1 .1 .1 .1 .0 }
 
-  pub kta-inside : (p : ℕ) → p < 768 → in16 (ktaSum w p) ≡ true
+  pub kta-inside : (p : ℕ) → p < 768 → (in16 (ktaTerm w p) ≡ true) × (in16 (ktaSum w p) ≡ true)
   unfolding pixelSteps AllInside
-  kta-inside p h = steps Kta p h .1 .0
+  kta-inside p h = let s = steps Kta p h in (s .0, s .1 .0)
 
 small : (z : ℤ) → in16 z ≡ true → mag z < 32768
 small z e = ltb-true (mag z) 32768 e
@@ -89,7 +89,7 @@ module _ (w : ℕ → ℕ) (base low : ℕ) (all : AllPixels w base low) where
       let e : c % 32 ≡ c = omega arith in
       rw e at (q .column)
 
-  module _ (t : Table) (own : (x : ℕ) → remainderIn t x ≡ signedField x low 6) (rows columns : List ℤ) (power : ℕ)
+  module _ (rows columns : List ℤ) (power : ℕ)
       (er : rows ≡ tab (rowSum w base) 24) (ec : columns ≡ tab (λ i. columnTerm w base (i % 32)) 64) (ep : power ≡ 2 ^ field (w base) 0 4) where
     part-is : (r c : ℕ) → r < 24 → c < 32 → columnPart rows columns r c ≡ columnSum w base (32 * r + c)
     unfolding columnSum
@@ -98,20 +98,23 @@ module _ (w : ℕ → ℕ) (base low : ℕ) (all : AllPixels w base low) where
         let m : (32 * (r % 2) + c) % 32 ≡ c = omega arith in
         rw (er, ec, tab-at (rowSum w base) 24 r (pos 0) hr, tab-at (λ i. columnTerm w base (i % 32)) 64 (32 * (r % 2) + c) (pos 0) i, m, row-of r c hc, column-of r c hc)
 
-    pub entry-is : (r c : ℕ) → r < 24 → c < 32 → rowEntry w t rows columns power r c ≡ wholeSum w base low (32 * r + c)
+    pub entry-is : (r c : ℕ) → r < 24 → c < 32 → rowEntry w rows columns low 6 power r c ≡ wholeSum w base low (32 * r + c)
     unfolding wholeSum
-    entry-is r c hr hc = rw (part-is r c hr hc, own (w (0x40 + (32 * r + c))), ep)
+    entry-is r c hr hc = rw (part-is r c hr hc, ep)
 
     pub parts-fit : PartsFit rows columns
     parts-fit r c hr hc = rw (part-is r c hr hc) (all (32 * r + c) (omega arith) .column-sum)
 
-    pub entries-exact : EntriesExact w t rows columns power
+    pub terms-fit : TermsFit w low 6 power
+    terms-fit r c hr hc = rw ep (all (32 * r + c) (omega arith) .rest)
+
+    pub entries-exact : EntriesExact w rows columns low 6 power
     unfolding wholeSum
     entries-exact r c hr hc =
         let q = all (32 * r + c) (omega arith) in
         rw (entry-is r c hr hc) (exact-sum (columnSum w base (32 * r + c)) (remainderTerm w base low (32 * r + c)) (q .column-sum) (q .rest))
 
-    pub entry-at : (p : ℕ) → p < 768 → rowEntry w t rows columns power (p / 32) (p % 32) ≡ wholeSum w base low p
+    pub entry-at : (p : ℕ) → p < 768 → rowEntry w rows columns low 6 power (p / 32) (p % 32) ≡ wholeSum w base low p
     entry-at p h =
         let e : 32 * (p / 32) + p % 32 ≡ p = omega arith in
         entry-is (p / 32) (p % 32) (omega arith) (omega arith) ∙ ap (wholeSum w base low) e
@@ -139,7 +142,7 @@ module _ (w : ℕ → ℕ) (columns : List ℤ) (power : ℕ) (ec : columns ≡ 
       rw (zeros-at 24 r, ec, tab-at (ktaAverage w) 64 (32 * (r % 2) + c) (pos 0) i)
       (+ℤ-idl (ktaAverage w (32 * (r % 2) + c)) ∙ ap (λ (k : ℕ). signedField (w (0x36 + k / 2)) (8 * (1 - k % 2)) 8) (same-place r c hc))
 
-  kta-entry : (r c : ℕ) → r < 24 → c < 32 → rowEntry w Kta zeros columns power r c ≡ ktaSum w (32 * r + c)
+  kta-entry : (r c : ℕ) → r < 24 → c < 32 → rowEntry w zeros columns 1 3 power r c ≡ ktaSum w (32 * r + c)
   unfolding ktaSum
   kta-entry r c hr hc = rw (kta-part r c hr hc, ep)
 
@@ -151,10 +154,13 @@ module _ (w : ℕ → ℕ) (columns : List ℤ) (power : ℕ) (ec : columns ≡ 
       rw (kta-part r c hr hc)
       (lt-ltb (mag (byWeight 128 v)) 32768 (omega (arith, signed-below 128 v (field-below x (8 * (1 - k % 2)) 8 (lit< tt)))))
 
-  pub kta-exact : firstOutside (walk w) ≡ None → EntriesExact w Kta zeros columns power
-  kta-exact e r c hr hc = rw (kta-entry r c hr hc) (exact-one (ktaSum w (32 * r + c)) (kta-inside w e (32 * r + c) (omega arith)))
+  pub kta-terms-fit : firstOutside (walk w) ≡ None → TermsFit w 1 3 power
+  kta-terms-fit e r c hr hc = rw ep (kta-inside w e (32 * r + c) (omega arith) .0)
 
-  pub kta-at : (p : ℕ) → p < 768 → rowEntry w Kta zeros columns power (p / 32) (p % 32) ≡ ktaSum w p
+  pub kta-exact : firstOutside (walk w) ≡ None → EntriesExact w zeros columns 1 3 power
+  kta-exact e r c hr hc = rw (kta-entry r c hr hc) (exact-one (ktaSum w (32 * r + c)) (kta-inside w e (32 * r + c) (omega arith) .1))
+
+  pub kta-at : (p : ℕ) → p < 768 → rowEntry w zeros columns 1 3 power (p / 32) (p % 32) ≡ ktaSum w p
   kta-at p h =
       let e : 32 * (p / 32) + p % 32 ≡ p = omega arith in
       kta-entry (p / 32) (p % 32) (omega arith) (omega arith) ∙ ap (ktaSum w) e

@@ -6,8 +6,6 @@ use mathlib.Core.Bool.{true}
 use mathlib.Core.List.{List}
 use lib.ListN.{getD}
 use lib.IntN.{ℤ, pos, natAbs, _+ℤ_, _*ℤ_}
-use Rattle.refusal.specs.declared.Table.{Table}
-use Rattle.refusal.specs.declared.Table.the-variants.{Offset, Alpha, Kta}
 use Rattle.util.specs.Words.{signedField}
 use Rattle.util.specs.Sums.{in16}
 use Rattle.walk.specs.Parts.{rowTerm, rowSum, columnTerm}
@@ -16,26 +14,23 @@ use Rattle.walk.specs.Parts.{rowTerm, rowSum, columnTerm}
 abbrev pub columnPart : List ℤ → List ℤ → ℕ → ℕ → ℤ
 columnPart rows columns r c = getD rows r (pos 0) +ℤ getD columns (32 * (r % 2) + c) (pos 0)
 
--- a pixel's remainder, in its own word
-abbrev pub remainderIn : Table → ℕ → ℤ
-remainderIn Offset x = signedField x 10 6
-remainderIn Alpha x = signedField x 4 6
-remainderIn Kta x = signedField x 1 3
+-- the whole sum of column c of row r; the remainder is width bits of the pixel's own word from bit low up, times power
+abbrev pub rowEntry : (ℕ → ℕ) → List ℤ → List ℤ → ℕ → ℕ → ℕ → ℕ → ℕ → ℤ
+rowEntry w rows columns low width power r c = columnPart rows columns r c +ℤ signedField (w (0x40 + (32 * r + c))) low width *ℤ pos power
 
--- the whole sum of column c of row r
-abbrev pub rowEntry : (ℕ → ℕ) → Table → List ℤ → List ℤ → ℕ → ℕ → ℕ → ℤ
-rowEntry w t rows columns power r c = columnPart rows columns r c +ℤ remainderIn t (w (0x40 + (32 * r + c))) *ℤ pos power
+-- what the code asks of the numbers that it is given: that the sum up to each column, and each remainder's term, fit 16 bits
+abbrev pub TermsFit : (ℕ → ℕ) → ℕ → ℕ → ℕ → Type 0
+TermsFit w low width power = (r c : ℕ) → r < 24 → c < 32 → in16 (signedField (w (0x40 + (32 * r + c))) low width *ℤ pos power) ≡ true
 
--- what the code asks of the rows and columns that it is given: that the sum up to each column fits 16 bits
 abbrev pub PartsFit : List ℤ → List ℤ → Type 0
 PartsFit rows columns = (r c : ℕ) → r < 24 → c < 32 → in16 (columnPart rows columns r c) ≡ true
 
 abbrev pub EntriesFit : (ℕ → ℕ) → List ℤ → List ℤ → ℕ → Type 0
-EntriesFit w rows columns power = (r c : ℕ) → r < 24 → c < 32 → in16 (rowEntry w Offset rows columns power r c) ≡ true
+EntriesFit w rows columns power = (r c : ℕ) → r < 24 → c < 32 → in16 (rowEntry w rows columns 10 6 power r c) ≡ true
 
 -- a whole number below 2 ^ 24 in size is an f32
-abbrev pub EntriesExact : (ℕ → ℕ) → Table → List ℤ → List ℤ → ℕ → Type 0
-EntriesExact w t rows columns power = (r c : ℕ) → r < 24 → c < 32 → natAbs (rowEntry w t rows columns power r c) < 2 ^ 24
+abbrev pub EntriesExact : (ℕ → ℕ) → List ℤ → List ℤ → ℕ → ℕ → ℕ → Type 0
+EntriesExact w rows columns low width power = (r c : ℕ) → r < 24 → c < 32 → natAbs (rowEntry w rows columns low width power r c) < 2 ^ 24
 
 -- and that the terms and the sums up to each row do
 abbrev pub RowsFit : (ℕ → ℕ) → ℕ → Type 0

@@ -8,14 +8,13 @@ use Prim.Native.Nat.{ℕ, _+_, _/_, _%_, _<_}
 use lib.ListN.{drop}
 use lib.IntN.{ℤ}
 use lib.Ieee.{Float}
-use Rattle.refusal.specs.declared.Table.the-variants.{Alpha}
 use Rattle.exact.specs.Dyadic.{dyadic}
 use Rattle.util.specs.Words.{listed}
 use Rattle.walk.specs.Parts.{wholeSum}
 use Rattle.tables.specs.Entries.{alphaAt}
 use Rattle.tables.specs.Rows.{rowEntry}
 use Rattle.tables.proofs.Filled.{tab-same}
-use Rattle.tables.proofs.Inside.{Inside, alpha-inside, rows-fit, columns-fit, parts-fit, entries-exact, entry-at}
+use Rattle.tables.proofs.Inside.{Inside, alpha-inside, rows-fit, columns-fit, parts-fit, terms-fit, entries-exact, entry-at}
 use Rattle.tables.proofs.fill_alpha.Statement.{statement}
 use Rattle.tables.proofs.fill_alpha.Tie as tie
 
@@ -32,8 +31,9 @@ float-rows-requires c κs =
       power .ensures .1,
       omega (arith, c .before .before .before .u16-from-bits .ensures),
       start .pre .1,
-      parts-fit w 0x20 4 (all start) Alpha (λ x. refl) (rows .result) (columns .result) (power .result) (rows .ensures) (columns .ensures) (power .ensures .0),
-      entries-exact w 0x20 4 (all start) Alpha (λ x. refl) (rows .result) (columns .result) (power .result) (rows .ensures) (columns .ensures) (power .ensures .0),
+      parts-fit w 0x20 4 (all start) (rows .result) (columns .result) (power .result) (rows .ensures) (columns .ensures) (power .ensures .0),
+      terms-fit w 0x20 4 (all start) (rows .result) (columns .result) (power .result) (rows .ensures) (columns .ensures) (power .ensures .0),
+      entries-exact w 0x20 4 (all start) (rows .result) (columns .result) (power .result) (rows .ensures) (columns .ensures) (power .ensures .0),
     )
 
 returns : tie.Need-returns
@@ -45,8 +45,8 @@ returns c =
     let power = d .before .before .remainder-power in
     let columns = d .before .before .before .column-terms in
     let rows = d .before .before .before .before .row-sums in
-    let same : (p : ℕ) → p < 768 → dyadic (rowEntry w Alpha (rows .result) (columns .result) (power .result) (p / 32) (p % 32)) (u .result + 30) ≡ alphaAt w p =
-    λ p h. ap (λ (z : ℤ). dyadic z (u .result + 30)) (entry-at w 0x20 4 (all start) Alpha (λ x. refl) (rows .result) (columns .result) (power .result) (rows .ensures) (columns .ensures) (power .ensures .0) p h)
+    let same : (p : ℕ) → p < 768 → dyadic (rowEntry w (rows .result) (columns .result) 4 6 (power .result) (p / 32) (p % 32)) (u .result + 30) ≡ alphaAt w p =
+    λ p h. ap (λ (z : ℤ). dyadic z (u .result + 30)) (entry-at w 0x20 4 (all start) (rows .result) (columns .result) (power .result) (rows .ensures) (columns .ensures) (power .ensures .0) p h)
     ∙ ap (λ (n : ℕ). dyadic (wholeSum w 0x20 4 p) (n + 30)) (u .ensures) in
     c .before .before .float-rows .ensures ∙ ap (λ (l : List Float). l ++ drop 768 (start .args .out .now)) (tab-same _ (alphaAt w) 768 same)
 

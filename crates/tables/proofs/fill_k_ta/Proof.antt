@@ -8,14 +8,13 @@ use Prim.Native.Nat.{ℕ, _+_, _/_, _%_, _<_}
 use lib.ListN.{drop}
 use lib.IntN.{ℤ}
 use lib.Ieee.{Float}
-use Rattle.refusal.specs.declared.Table.the-variants.{Kta}
 use Rattle.exact.specs.Dyadic.{dyadic}
 use Rattle.util.specs.Words.{listed}
 use Rattle.walk.specs.Parts.{ktaSum}
 use Rattle.tables.specs.Entries.{ktaAt}
 use Rattle.tables.specs.Rows.{rowEntry}
 use Rattle.tables.proofs.Filled.{tab-same}
-use Rattle.tables.proofs.Inside.{zeros, kta-parts-fit, kta-exact, kta-at}
+use Rattle.tables.proofs.Inside.{zeros, kta-parts-fit, kta-terms-fit, kta-exact, kta-at}
 use Rattle.tables.proofs.fill_k_ta.Statement.{statement}
 use Rattle.tables.proofs.fill_k_ta.Tie as tie
 
@@ -29,6 +28,7 @@ float-rows-requires c κs =
       omega (arith, c .before .before .before .u16-from-bits .ensures),
       start .pre .1,
       kta-parts-fit w (columns .result) (power .result) (columns .ensures) (power .ensures .0),
+      kta-terms-fit w (columns .result) (power .result) (columns .ensures) (power .ensures .0) (start .pre .0),
       kta-exact w (columns .result) (power .result) (columns .ensures) (power .ensures .0) (start .pre .0),
     )
 
@@ -40,7 +40,7 @@ returns c =
     let u = d .u16-from-bits in
     let power = d .before .before .remainder-power in
     let columns = d .before .before .before .k-ta-columns in
-    let same : (p : ℕ) → p < 768 → dyadic (rowEntry w Kta zeros (columns .result) (power .result) (p / 32) (p % 32)) (u .result + 8) ≡ ktaAt w p =
+    let same : (p : ℕ) → p < 768 → dyadic (rowEntry w zeros (columns .result) 1 3 (power .result) (p / 32) (p % 32)) (u .result + 8) ≡ ktaAt w p =
     λ p h. ap (λ (z : ℤ). dyadic z (u .result + 8)) (kta-at w (columns .result) (power .result) (columns .ensures) (power .ensures .0) p h)
     ∙ ap (λ (n : ℕ). dyadic (ktaSum w p) (n + 8)) (u .ensures) in
     c .before .before .float-rows .ensures ∙ ap (λ (l : List Float). l ++ drop 768 (start .args .out .now)) (tab-same _ (ktaAt w) 768 same)

@@ -7,10 +7,9 @@ use mathlib.Core.List.{List, _++_}
 use Prim.Native.Nat.{ℕ, _+_, _*_, _<_}
 use lib.ListN.{drop}
 use lib.IntN.{ℤ}
-use Rattle.refusal.specs.declared.Table.the-variants.{Offset}
 use Rattle.util.specs.Words.{listed}
 use Rattle.tables.proofs.Filled.{tab-same}
-use Rattle.tables.proofs.Inside.{Inside, offset-inside, rows-fit, columns-fit, parts-fit, entry-is, entry-at}
+use Rattle.tables.proofs.Inside.{Inside, offset-inside, rows-fit, columns-fit, parts-fit, terms-fit, entry-is, entry-at}
 use Rattle.tables.proofs.fill_offset.Statement.{statement}
 use Rattle.tables.proofs.fill_offset.Tie as tie
 
@@ -26,8 +25,9 @@ offset-rows-requires c κs =
     let power = c .before .before .before .remainder-power in (
       power .ensures .1,
       start .pre .1,
-      parts-fit w 0x10 10 (all start) Offset (λ x. refl) (rows .result) (columns .result) (power .result) (rows .ensures) (columns .ensures) (power .ensures .0),
-      λ r k hr hk. rw (entry-is w 0x10 10 (all start) Offset (λ x. refl) (rows .result) (columns .result) (power .result) (rows .ensures) (columns .ensures) (power .ensures .0) r k hr hk)
+      parts-fit w 0x10 10 (all start) (rows .result) (columns .result) (power .result) (rows .ensures) (columns .ensures) (power .ensures .0),
+      terms-fit w 0x10 10 (all start) (rows .result) (columns .result) (power .result) (rows .ensures) (columns .ensures) (power .ensures .0),
+      λ r k hr hk. rw (entry-is w 0x10 10 (all start) (rows .result) (columns .result) (power .result) (rows .ensures) (columns .ensures) (power .ensures .0) r k hr hk)
           (offset-inside w (start .pre .0) (32 * r + k) (omega arith) .1),
     )
 
@@ -40,7 +40,7 @@ returns c =
     let power = c .before .before .before .before .before .remainder-power in
     c .before .offset-rows .ensures
     ∙ ap (λ (l : List ℤ). l ++ drop 768 (start .args .out .now))
-    (tab-same _ _ 768 (entry-at w 0x10 10 (all start) Offset (λ x. refl) (rows .result) (columns .result) (power .result) (rows .ensures) (columns .ensures) (power .ensures .0)))
+    (tab-same _ _ 768 (entry-at w 0x10 10 (all start) (rows .result) (columns .result) (power .result) (rows .ensures) (columns .ensures) (power .ensures .0)))
 
 pub fill-offset-spec : {M : Type 1} → statement M
 fill-offset-spec =

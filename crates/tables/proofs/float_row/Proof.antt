@@ -6,12 +6,11 @@ use mathlib.Core.Path.{_≡_, refl, ap, _∙_}
 use mathlib.Core.List.{_++_}
 use Prim.Native.Nat.{ℕ, _+_, _-_, _≤_, _<_}
 use lib.ListN.{length, drop, length-set}
-use lib.IntN.{ℤ}
+use lib.IntN.{ℤ, pos}
 use lib.Ieee.{Float}
-use mir.Facts.{toZ-ofZ}
-use mir.Syntax.{w16, w32}
+use mir.Syntax.{w32}
 use mir.Val.{toZ, ofZ}
-use Rattle.exact.specs.Dyadic.{dyadic}
+use Rattle.exact.specs.Dyadic.{dyadic, twoTo}
 use Rattle.util.specs.Words.{listed}
 use Rattle.util.proofs.Whole.{back32}
 use Rattle.tables.specs.Tab.{tab}
@@ -21,44 +20,49 @@ use Rattle.tables.proofs.float_row.Statement.{statement}
 use Rattle.tables.proofs.float_row.Tie as tie
 
 abbrev Inv-loop : tie.InvT-loop
-Inv-loop words t rows columns power k r out₀ divisor c₀ out c =
-    (c ≤ 32) × (out ≡ tab (λ n. dyadic (rowEntry (listed words) t rows columns power r n) k) c ++ drop c out₀) × (length out ≡ length out₀)
+Inv-loop words rows columns low width power divisor r out₀ c₀ out c =
+    (c ≤ 32)
+    × ((k : ℕ) → k ≤ 149 → divisor ≡ twoTo (pos k) → out ≡ tab (λ n. dyadic (rowEntry (listed words) rows columns low width power r n) k) c ++ drop c out₀)
+    × (length out ≡ length out₀)
 
 abbrev μ-loop : tie.MeasureT-loop
-μ-loop words t rows columns power k r out₀ divisor c₀ out c = 32 - c
+μ-loop words rows columns low width power divisor r out₀ c₀ out c = 32 - c
 
 entry-is : (c : tie.After-row-entry Inv-loop μ-loop)
-    → let s = c .before .before .before .before .before .args in
-    toZ w32 (ofZ w32 (c .row-entry .result)) ≡ rowEntry (listed (s .words .now)) (s .t) (s .rows .now) (s .columns .now) (s .power) (s .r) (c .before .before .loop .c)
+    → let s = c .before .before .before .before .args in
+    toZ w32 (ofZ w32 (c .row-entry .result)) ≡ rowEntry (listed (s .words .now)) (s .rows .now) (s .columns .now) (s .low) (s .width) (s .power) (s .r) (c .before .before .loop .c)
 entry-is c = back32 (c .row-entry .result) (c .row-entry .ok) ∙ c .row-entry .ensures
 
 row-entry-requires : tie.Need-row-entry-requires Inv-loop μ-loop
-row-entry-requires c κs = let start = c .before .before .before .before in (start .pre .0, c .loop-test .taken, start .pre .1, start .pre .4)
+row-entry-requires c κs = let start = c .before .before .before in (start .pre .0, c .loop-test .taken, start .pre .1, start .pre .3, start .pre .4)
 
 over-requires : tie.Need-over-requires Inv-loop μ-loop
 over-requires c κs =
-    let start = c .before .before .before .before .before in
+    let start = c .before .before .before .before in
     rw (entry-is c) (start .pre .5 (start .args .r) (c .before .before .loop .c) (start .pre .0) (c .before .loop-test .taken))
 
 loop-again : tie.Need-loop-again Inv-loop μ-loop
 loop-again c =
     let at-loop = c .before .before .before in
-    let start = at-loop .before .before .before in
+    let start = at-loop .before .before in
     let s = start .args in
     let n = at-loop .loop .c in
-    let h : s .k ≤ 149 = omega (arith, start .pre .2) in
-    let f : ℕ → Float = λ m. dyadic (rowEntry (listed (s .words .now)) (s .t) (s .rows .now) (s .columns .now) (s .power) (s .r) m) (s .k) in
-    let stored : c .over .result ≡ f n =
-    c .over .ensures (s .k) h (at-loop .before .up-power .ensures) ∙ ap (λ (z : ℤ). dyadic z (s .k)) (entry-is (c .before)) in
-    let l : n < length (s .out .now) = omega (arith, start .pre .3) in
-    (omega arith, rw (stored, at-loop .loop .inv .1) (tab-more f n (s .out .now) l), simp length-set (at-loop .loop .inv .2))
+    let l : n < length (s .out .now) = omega (arith, start .pre .2) in (
+      omega arith,
+      λ k h e.
+          let f : ℕ → Float = λ m. dyadic (rowEntry (listed (s .words .now)) (s .rows .now) (s .columns .now) (s .low) (s .width) (s .power) (s .r) m) k in
+          let stored : c .over .result ≡ f n = c .over .ensures k h e ∙ ap (λ (z : ℤ). dyadic z k) (entry-is (c .before)) in
+          rw (stored, at-loop .loop .inv .1 k h e) (tab-more f n (s .out .now) l),
+      simp length-set (at-loop .loop .inv .2),
+    )
 
 returns : tie.Need-returns Inv-loop μ-loop
 returns c =
+    λ k h e.
     let at-loop = c .before in
-    let start = at-loop .before .before .before in
-    let e : at-loop .loop .c ≡ 32 = omega arith in
-    rw e at (at-loop .loop .inv .1) ∙ tab-whole _ 32 (start .args .out .now) (start .pre .3)
+    let start = at-loop .before .before in
+    let all : at-loop .loop .c ≡ 32 = omega arith in
+    rw all at (at-loop .loop .inv .1 k h e) ∙ tab-whole _ 32 (start .args .out .now) (start .pre .2)
 
 pub float-row-spec : {M : Type 1} → statement M
 float-row-spec =
@@ -66,8 +70,7 @@ float-row-spec =
     (tie.spec
     Inv-loop
     μ-loop
-    (λ c κs. search needs)
-    (λ c. (omega arith, tab-none _ _, refl))
+    (λ c. (omega arith, (λ k h e. tab-none _ _), refl))
     row-entry-requires
     over-requires
     (λ c. omega arith)

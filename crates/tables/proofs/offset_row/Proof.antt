@@ -10,7 +10,6 @@ use lib.IntN.{ℤ}
 use mir.Facts.{toZ-ofZ}
 use mir.Syntax.{w16, w32}
 use mir.Val.{SFits, toZ, ofZ}
-use Rattle.refusal.specs.declared.Table.the-variants.{Offset}
 use Rattle.util.specs.Words.{listed}
 use Rattle.util.proofs.Whole.{back32, fits-16}
 use Rattle.tables.specs.Tab.{tab}
@@ -21,30 +20,30 @@ use Rattle.tables.proofs.offset_row.Tie as tie
 
 abbrev Inv-loop : tie.InvT-loop
 Inv-loop words rows columns power r out₀ c₀ out c =
-    (c ≤ 32) × (out ≡ tab (rowEntry (listed words) Offset rows columns power r) c ++ drop c out₀) × (length out ≡ length out₀)
+    (c ≤ 32) × (out ≡ tab (rowEntry (listed words) rows columns 10 6 power r) c ++ drop c out₀) × (length out ≡ length out₀)
 
 abbrev μ-loop : tie.MeasureT-loop
 μ-loop words rows columns power r out₀ c₀ out c = 32 - c
 
 entry-is : (c : tie.After-row-entry Inv-loop μ-loop)
     → let s = c .before .before .before .args in
-    toZ w32 (ofZ w32 (c .row-entry .result)) ≡ rowEntry (listed (s .words .now)) Offset (s .rows .now) (s .columns .now) (s .power) (s .r) (c .before .before .loop .c)
+    toZ w32 (ofZ w32 (c .row-entry .result)) ≡ rowEntry (listed (s .words .now)) (s .rows .now) (s .columns .now) 10 6 (s .power) (s .r) (c .before .before .loop .c)
 entry-is c = back32 (c .row-entry .result) (c .row-entry .ok) ∙ c .row-entry .ensures
 
 entry-fits : (c : tie.After-row-entry Inv-loop μ-loop) → SFits w16 (toZ w32 (ofZ w32 (c .row-entry .result)))
 entry-fits c =
     let start = c .before .before .before in
-    rw (entry-is c) (fits-16 (start .pre .4 (start .args .r) (c .before .before .loop .c) (start .pre .0) (c .before .loop-test .taken)))
+    rw (entry-is c) (fits-16 (start .pre .5 (start .args .r) (c .before .before .loop .c) (start .pre .0) (c .before .loop-test .taken)))
 
 row-entry-requires : tie.Need-row-entry-requires Inv-loop μ-loop
-row-entry-requires c κs = let start = c .before .before in (start .pre .0, c .loop-test .taken, start .pre .1, start .pre .3)
+row-entry-requires c κs = let start = c .before .before in (start .pre .0, c .loop-test .taken, start .pre .1, start .pre .3, start .pre .4)
 
 loop-again : tie.Need-loop-again Inv-loop μ-loop
 loop-again c =
     let at-loop = c .before .before in
     let s = at-loop .before .args in
     let k = at-loop .loop .c in
-    let f : ℕ → ℤ = rowEntry (listed (s .words .now)) Offset (s .rows .now) (s .columns .now) (s .power) (s .r) in
+    let f : ℕ → ℤ = rowEntry (listed (s .words .now)) (s .rows .now) (s .columns .now) 10 6 (s .power) (s .r) in
     let stored : toZ w16 (ofZ w16 (toZ w32 (ofZ w32 (c .row-entry .result)))) ≡ f k = toZ-ofZ (entry-fits c) ∙ entry-is c in
     let l : k < length (s .out .now) = omega (arith, at-loop .before .pre .2) in
     (omega arith, rw (stored, at-loop .loop .inv .1) (tab-more f k (s .out .now) l), simp length-set (at-loop .loop .inv .2))

@@ -1,4 +1,4 @@
--- `tables::row_entry` meets its contract: the sum up to the column fits 16 bits, and the rest is done in 32.
+-- `tables::row_entry` meets its contract: the sum up to the column and the remainder's term fit 16 bits, and their sum is made in 32.
 -- Assumes nothing.
 use borrow.Author.Needs.{needs}
 use native.Mathlib.Omega.{arith}
@@ -14,7 +14,7 @@ use Rattle.tables.specs.Rows.{columnPart}
 use Rattle.tables.proofs.row_entry.Statement.{statement}
 use Rattle.tables.proofs.row_entry.Tie as tie
 
-module _ (c : tie.After-plus-times-arg2) where
+module _ (c : tie.After-sum-arg2) where
   abbrev part : ℤ
   part = let s = c .before .before .before .before .args in columnPart (s .rows .now) (s .columns .now) (s .r) (s .c)
 
@@ -26,14 +26,21 @@ module _ (c : tie.After-plus-times-arg2) where
       toZ w16 (ofZ w16 (getD (s .rows .now) (s .r) (pos 0))) +ℤ toZ w16 (ofZ w16 (getD (s .columns .now) (32 * (s .r % 2) + s .c) (pos 0))) ≡ part
   part-is =
       let s = c .before .before .before .before .args in
-      rw (back16 (getD (s .rows .now) (s .r) (pos 0)) (c .before .plus-times-arg .given), back16 (getD (s .columns .now) (32 * (s .r % 2) + s .c) (pos 0)) (c .plus-times-arg2 .given))
+      rw (back16 (getD (s .rows .now) (s .r) (pos 0)) (c .before .sum-arg .given), back16 (getD (s .columns .now) (32 * (s .r % 2) + s .c) (pos 0)) (c .sum-arg2 .given))
+
+times-requires : tie.Need-times-requires
+times-requires c κs =
+    let s = c .before .before .before .before in
+    let own = c .before .before .i16-from-bits in
+    (s .pre .2, rw (back16 (own .result) (own .ok), own .ensures .0) (s .pre .4 (s .args .r) (s .args .c) (s .pre .0) (s .pre .1)))
 
 returns : tie.Need-returns
 returns c =
-    let d = c .before in
-    let own = d .before .before .remainder in
-    back32 (c .plus-times .result) (c .plus-times .ok)
-    ∙ rw (part-is d, toZ-ofZ (part-fits d), back16 (own .result) (own .ok), own .ensures) at (c .plus-times .ensures)
+    let d = c .before .before in
+    let own = d .before .before .i16-from-bits in
+    let t = c .before .times in
+    back32 (c .sum .result) (c .sum .ok)
+    ∙ rw (part-is d, toZ-ofZ (part-fits d), back16 (t .result) (t .ok), t .ensures, back16 (own .result) (own .ok), own .ensures .0) at (c .sum .ensures)
 
 pub row-entry-spec : {M : Type 1} → statement M
 row-entry-spec =
@@ -52,5 +59,6 @@ row-entry-spec =
     (λ c. search needs)
     (λ c. omega arith)
     (λ c. rw (part-is c) (part-fits c))
+    times-requires
     (λ c κs. search needs)
     returns)

@@ -1,0 +1,137 @@
+-- Refusals exactly when: the tests come in the scope's order, so a call goes one of three ways, and past the tests the walk alone decides.
+-- Assumes nothing.
+use mathlib.Core.Path.{_≡_, refl, sym, _∙_}
+use mathlib.Core.Logic.{_↔_, _⊎_, inl, inr, ⊎-elim}
+use mathlib.Core.Bool.{Bool, true, false}
+use mathlib.Core.List.{List}
+use Prim.Native.Nat.{ℕ, _≤_, _<_}
+use native.Mathlib.Omega.{arith}
+use borrow.Author.Tests.{ltb-true, ltb-false}
+use lib.Dec.{ltb}
+use lib.ListN.{length}
+use Rattle.refusal.specs.declared.Table.{Table}
+use Rattle.refusal.specs.declared.Refusal.{Refusal}
+use Rattle.refusal.specs.declared.Refusal.the-variants.{None, ImageShort, TableShort, Term, Sum}
+use Rattle.record.proofs.Numbers.{exactly}
+use Rattle.walk.specs.Walk.{walk, firstOutside, AllInside, FirstIs, Step, refusalIn, term, sum}
+use Rattle.walk.proofs.Meaning.{accepted-inside, inside-accepted, first-refused, refused-first}
+use Rattle.eeprom.specs.Image.{imageWords}
+use Rattle.eeprom.specs.Decoding.{refusalOf}
+
+-- the image is long enough, and so are the tables
+pub record Room (image : List ℕ) (l m n : ℕ) : Type 0 where
+  pub whole : 1664 ≤ length image
+  pub offset : 768 ≤ l
+  pub alpha : 768 ≤ m
+  pub kta : 768 ≤ n
+
+-- some table is short
+abbrev Narrow : ℕ → ℕ → ℕ → Type 0
+Narrow l m n = (l < 768) ⊎ ((m < 768) ⊎ (n < 768))
+
+-- the walk refuses by 3 or 4 and by nothing else
+no-short : (xs : List Step) → firstOutside xs ≡ ImageShort → ⊥
+no-short xs e = go (refused-first xs ImageShort e (λ d. let z : _≡_ {A = ℕ} 0 1 = cc in omega arith))
+  where
+    never : (s : Step) → refusalIn s ≡ ImageShort → ⊥
+    never (term t p z) e = let z : _≡_ {A = ℕ} 0 1 = cc in omega arith
+    never (sum t p z) e = let z : _≡_ {A = ℕ} 0 1 = cc in omega arith
+
+    go : FirstIs xs ImageShort → ⊥
+    go f = never (f .step) (f .refuses)
+
+no-narrow : (xs : List Step) → firstOutside xs ≡ TableShort → ⊥
+no-narrow xs e = go (refused-first xs TableShort e (λ d. let z : _≡_ {A = ℕ} 0 1 = cc in omega arith))
+  where
+    never : (s : Step) → refusalIn s ≡ TableShort → ⊥
+    never (term t p z) e = let z : _≡_ {A = ℕ} 0 1 = cc in omega arith
+    never (sum t p z) e = let z : _≡_ {A = ℕ} 0 1 = cc in omega arith
+
+    go : FirstIs xs TableShort → ⊥
+    go f = never (f .step) (f .refuses)
+
+module _ (image : List ℕ) (l m n : ℕ) where
+  abbrev steps : List Step
+  steps = walk (imageWords image)
+
+  -- the three ways that a call goes
+  data Way : Type 0 where
+    short : length image < 1664 → refusalOf image l m n ≡ ImageShort → Way
+    narrow : 1664 ≤ length image → Narrow l m n → refusalOf image l m n ≡ TableShort → Way
+    walked : Room image l m n → refusalOf image l m n ≡ firstOutside steps → Way
+
+  way : Way
+  unfolding refusalOf
+  way = go (ltb (length image) 1664) (ltb l 768) (ltb m 768) (ltb n 768) refl refl refl refl
+    where
+      go : (a b c d : Bool) → ltb (length image) 1664 ≡ a → ltb l 768 ≡ b → ltb m 768 ≡ c → ltb n 768 ≡ d → Way
+      go true b c d ea eb ec ed = short (ltb-true (length image) 1664 ea) (rw ea)
+      go false true c d ea eb ec ed = narrow (ltb-false (length image) 1664 ea) (inl (ltb-true l 768 eb)) (rw (ea, eb))
+      go false false true d ea eb ec ed = narrow (ltb-false (length image) 1664 ea) (inr (inl (ltb-true m 768 ec))) (rw (ea, eb, ec))
+      go false false false true ea eb ec ed = narrow (ltb-false (length image) 1664 ea) (inr (inr (ltb-true n 768 ed))) (rw (ea, eb, ec, ed))
+      go false false false false ea eb ec ed =
+          walked (record { whole = ltb-false (length image) 1664 ea; offset = ltb-false l 768 eb; alpha = ltb-false m 768 ec; kta = ltb-false n 768 ed }) (rw (ea, eb, ec, ed))
+
+  pub refusal-1 : (refusalOf image l m n ≡ ImageShort) ↔ (length image < 1664)
+  refusal-1 = (λ e. to way e, from way)
+    where
+      to : Way → refusalOf image l m n ≡ ImageShort → length image < 1664
+      to (short h d) e = h
+      to (narrow h t d) e = absurd (let z : _≡_ {A = ℕ} 0 1 = cc in omega arith)
+      to (walked r d) e = absurd (no-short steps (sym d ∙ e))
+
+      from : Way → length image < 1664 → refusalOf image l m n ≡ ImageShort
+      from (short h d) k = d
+      from (narrow h t d) k = absurd (omega arith)
+      from (walked r d) k = absurd (omega arith)
+
+  pub refusal-2 : (refusalOf image l m n ≡ TableShort) ↔ ((1664 ≤ length image) × Narrow l m n)
+  refusal-2 = (λ e. to way e, from way)
+    where
+      to : Way → refusalOf image l m n ≡ TableShort → (1664 ≤ length image) × Narrow l m n
+      to (short h d) e = absurd (let z : _≡_ {A = ℕ} 0 1 = cc in omega arith)
+      to (narrow h t d) e = (h, t)
+      to (walked r d) e = absurd (no-narrow steps (sym d ∙ e))
+
+      roomy : Room image l m n → Narrow l m n → ⊥
+      roomy r t = ⊎-elim (λ (k : l < 768). omega (arith, r .offset)) (⊎-elim (λ (k : m < 768). omega (arith, r .alpha)) (λ (k : n < 768). omega (arith, r .kta))) t
+
+      from : Way → (1664 ≤ length image) × Narrow l m n → refusalOf image l m n ≡ TableShort
+      from (short h d) k = absurd (omega (arith, k .0))
+      from (narrow h t d) k = d
+      from (walked r d) k = absurd (roomy r (k .1))
+
+  -- any other answer is the walk's, and the other way round
+  pub walk-decides : (r : Refusal) → (r ≡ ImageShort → ⊥) → (r ≡ TableShort → ⊥) → (refusalOf image l m n ≡ r) ↔ (Room image l m n × (firstOutside steps ≡ r))
+  walk-decides r a b = (λ e. to way e, λ k. from way k)
+    where
+      to : Way → refusalOf image l m n ≡ r → Room image l m n × (firstOutside steps ≡ r)
+      to (short h d) e = absurd (a (sym e ∙ d))
+      to (narrow h t d) e = absurd (b (sym e ∙ d))
+      to (walked q d) e = (q, sym d ∙ e)
+
+      from : Way → Room image l m n × (firstOutside steps ≡ r) → refusalOf image l m n ≡ r
+      from (short h d) k = absurd (omega (arith, k .0 .whole))
+      from (narrow h t d) k = absurd (⊎-elim (λ (x : l < 768). omega (arith, k .0 .offset)) (⊎-elim (λ (x : m < 768). omega (arith, k .0 .alpha)) (λ (x : n < 768). omega (arith, k .0 .kta))) t)
+      from (walked q d) k = d ∙ k .1
+
+  -- accepted exactly where there is room and every step of the walk is inside 16 bits
+  pub accepted-exactly : (refusalOf image l m n ≡ None) ↔ (Room image l m n × AllInside steps)
+  accepted-exactly =
+      let w = walk-decides None (λ e. let z : _≡_ {A = ℕ} 0 1 = cc in omega arith) (λ e. let z : _≡_ {A = ℕ} 0 1 = cc in omega arith) in
+      (λ e. let k = w .0 e in (k .0, accepted-inside steps (k .1)), λ k. w .1 (k .0, inside-accepted steps (k .1)))
+
+  -- 3 or 4 with table t and pixel p exactly where that step is the first outside
+  pub refusal-3 : (t : Table) (p : ℕ) → (refusalOf image l m n ≡ Term t p) ↔ (Room image l m n × FirstIs steps (Term t p))
+  refusal-3 t p =
+      let w = walk-decides (Term t p) (λ e. let z : _≡_ {A = ℕ} 0 1 = cc in omega arith) (λ e. let z : _≡_ {A = ℕ} 0 1 = cc in omega arith) in (
+        λ e. let k = w .0 e in (k .0, refused-first steps (Term t p) (k .1) (λ d. let z : _≡_ {A = ℕ} 0 1 = cc in omega arith)),
+        λ k. w .1 (k .0, first-refused steps (Term t p) (k .1)),
+      )
+
+  pub refusal-4 : (t : Table) (p : ℕ) → (refusalOf image l m n ≡ Sum t p) ↔ (Room image l m n × FirstIs steps (Sum t p))
+  refusal-4 t p =
+      let w = walk-decides (Sum t p) (λ e. let z : _≡_ {A = ℕ} 0 1 = cc in omega arith) (λ e. let z : _≡_ {A = ℕ} 0 1 = cc in omega arith) in (
+        λ e. let k = w .0 e in (k .0, refused-first steps (Sum t p) (k .1) (λ d. let z : _≡_ {A = ℕ} 0 1 = cc in omega arith)),
+        λ k. w .1 (k .0, first-refused steps (Sum t p) (k .1)),
+      )
