@@ -11,6 +11,9 @@ use lib.Seq.{sets, take-suc}
 use lib.IntN.{ℤ}
 use lib.Ieee.{Float}
 use Rattle.util.specs.Bytes.{two, four}
+use Rattle.record.specs.declared.Optional.{Optional}
+use Rattle.record.specs.declared.Optional.the-variants.{Absent, Given}
+use Rattle.layout.specs.RecordBytes.{optionalBytes}
 use Rattle.layout.specs.Numbers.{short, float, flat, shorts, floats}
 
 -- a piece after a piece is one piece
@@ -75,3 +78,8 @@ short-long z = refl
 pub float-long : (x : Float) → length (float x) ≡ 4
 unfolding four
 float-long x = refl
+
+pub optional-long : (x : Optional) → length (optionalBytes x) ≡ 5
+unfolding optionalBytes four
+optional-long Absent = refl
+optional-long (Given x) = refl

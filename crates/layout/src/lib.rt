@@ -2,6 +2,7 @@
 mod fields;
 mod numbers;
 
+pub use fields::get_record;
 pub use fields::put_record;
 pub use numbers::put_i16s;
 pub use numbers::put_table;
