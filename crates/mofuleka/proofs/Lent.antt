@@ -21,7 +21,6 @@ use Rattle.tables.proofs.Filled.{tab-at, tab-whole, tab-length}
 use Rattle.record.specs.Fields.{recordOf}
 use Rattle.eeprom.specs.Decoding.{answered, tableAfter}
 use Rattle.eeprom.specs.declared.Decoded.{Decoded}
-use Rattle.layout.specs.RecordBytes.{recordBytes}
 use Rattle.mofuleka.specs.Decoding.{tooShort, lentAfter}
 
 pub lent-kept : (b : Bool) (bytes before : List ℕ) → b ≡ false → before ≡ lentAfter b bytes before
