@@ -21,7 +21,6 @@ use Rattle.tables.proofs.Filled.{tab-at, tab-whole, tab-length}
 use Rattle.record.specs.Fields.{recordOf}
 use Rattle.eeprom.specs.Decoding.{answered, tableAfter}
 use Rattle.eeprom.specs.declared.Decoded.{Decoded}
-use Rattle.layout.specs.RecordBytes.{recordBytes}
 use Rattle.mofuleka.specs.Decoding.{tooShort, lentAfter}
 
 pub lent-kept : (b : Bool) (bytes before : List ℕ) → b ≡ false → before ≡ lentAfter b bytes before
@@ -47,13 +46,10 @@ lent-table {A} g f b before ok whole size room w =
     lent-written b (g (tab f 768)) before ok size room (w ∙ ap (λ (s : List A). sets before 0 (g s)) whole)
 
 -- and the record
-pub lent-record : {d : Decoded} {x : List ℕ} (w : ℕ → ℕ) (q : Refusal) (before : List ℕ) → d ≡ answered q w → acceptedBy (d .refusal) ≡ true
-    → length (recordBytes (d .«record»)) ≡ 122 → 122 ≤ length before → x ≡ sets before 0 (recordBytes (d .«record»))
-    → x ≡ lentAfter (acceptedBy (d .refusal)) (recordBytes (recordOf w)) before
-lent-record {d} w q before e ok size room wrote =
+pub decoded-record : {d : Decoded} (w : ℕ → ℕ) (q : Refusal) → d ≡ answered q w → acceptedBy (d .refusal) ≡ true → d .«record» ≡ recordOf w
+decoded-record w q e ok =
     let k : acceptedBy q ≡ true = sym (ap (λ (y : Decoded). acceptedBy (y .refusal)) e) ∙ ok in
-    let is : d .«record» ≡ recordOf w = ap (λ (y : Decoded). y .«record») e ∙ rw k in
-    lent-written (acceptedBy (d .refusal)) (recordBytes (recordOf w)) before ok (rw is at size) room (rw is at wrote)
+    ap (λ (y : Decoded). y .«record») e ∙ rw k
 
 -- what the test of the four lengths tells
 neither : (a b : Bool) → (a || b) ≡ false → (a ≡ false) × (b ≡ false)

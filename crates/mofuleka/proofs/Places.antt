@@ -22,8 +22,13 @@ use Rattle.camera.specs.declared.Subpage.{Subpage}
 use Rattle.camera.specs.declared.MaskAnswer.{MaskAnswer}
 use Rattle.camera.specs.declared.RangeAnswer.{RangeAnswer}
 use Rattle.camera.specs.declared.ResolutionAnswer.{ResolutionAnswer}
+use Rattle.record.specs.Questions.{kVAnswer, correctionAnswer}
+use Rattle.record.specs.declared.Record.{Record}
+use Rattle.record.specs.declared.KvAnswer.{KvAnswer}
+use Rattle.record.specs.declared.CorrectionAnswer.{CorrectionAnswer}
 use Rattle.eeprom.specs.Image.{imageWords}
 use Rattle.mofuleka.specs.Decoding.{tooShort, slicesRefusal}
+use Rattle.mofuleka.specs.Questions.{shortRecord}
 use Rattle.mofuleka.specs.Answers.{firstOf, selectorRefusal, selectedOr}
 
 abbrev pub Placed : ℕ → Refusal → Type 0
@@ -54,6 +59,18 @@ placed-range pattern subpage n = placed-either (λ (a : RangeAnswer). a .refusal
 
 pub placed-resolution : (a b : ℕ) → Placed (2 ^ 48) (resolutionAnswer a b .refusal)
 placed-resolution a b = placed-either (λ (a : ResolutionAnswer). a .refusal) (ltb 15 a || ltb 15 b) _ _ (lit< tt) (lit< tt)
+
+-- ---- of the record's questions
+pub placed-short : (n : ℕ) → Placed (2 ^ 48) (shortRecord n)
+placed-short n = placed-either (λ r. r) (ltb n 122) TableShort None (lit< tt) (lit< tt)
+
+pub placed-k-v : (r : Record) (p : ℕ) → Placed (2 ^ 48) (kVAnswer r p .refusal)
+unfolding kVAnswer
+placed-k-v r p = placed-either (λ (a : KvAnswer). a .refusal) (ltb p 768) _ _ (lit< tt) (lit< tt)
+
+pub placed-correction : (r : Record) (a : AccessPattern) (p : ℕ) → Placed (2 ^ 48) (correctionAnswer r a p .refusal)
+unfolding correctionAnswer
+placed-correction r a p = placed-either (λ (a : CorrectionAnswer). a .refusal) (ltb p 768) _ _ (lit< tt) (lit< tt)
 
 -- ---- of the walk
 PixelBelow : ℕ → Step → Type 0

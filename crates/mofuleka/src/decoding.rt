@@ -12,11 +12,12 @@ use layout::put_table;
 use refusal::Refusal;
 use refusal::accepted;
 ghost use mathlib.Core.Path.{_≡_};
+ghost use mathlib.Core.Bool.{true};
 ghost use lib.Dec.{eqb};
 ghost use lib.ListN.{length};
 ghost use Rattle.refusal.specs.Code.{acceptedBy};
 ghost use Rattle.eeprom.specs.Image.{imageWords};
-ghost use Rattle.layout.specs.RecordBytes.{recordBytes};
+ghost use Rattle.layout.specs.RecordBytes.{recordBytes, recordIn};
 ghost use Rattle.record.specs.Fields.{recordOf};
 ghost use Rattle.mofuleka.specs.Answers.{refusalWord};
 ghost use Rattle.mofuleka.specs.Decoding.{tooShort, slicesRefusal, lentAfter, offsetBytes, alphaBytes, ktaBytes};
@@ -44,6 +45,7 @@ fn decode(
     ensures alpha { λ r. ⌜ now (alpha .exit) ≡ lentAfter (acceptedBy r) (alphaBytes (imageWords (now (image .entry)))) (now (alpha .entry)) ⌝ }
     ensures k_ta { λ r. ⌜ now («k_ta» .exit) ≡ lentAfter (acceptedBy r) (ktaBytes (imageWords (now (image .entry)))) (now («k_ta» .entry)) ⌝ }
     ensures record { λ r. ⌜ now («record» .exit) ≡ lentAfter (acceptedBy r) (recordBytes (recordOf (imageWords (now (image .entry))))) (now («record» .entry)) ⌝ }
+    ensures stored { λ r. ⌜ (acceptedBy r ≡ true → recordIn (now («record» .exit)) ≡ recordOf (imageWords (now (image .entry)))) ⌝ }
 {
     if image.len() < IMAGE_BYTES {
         return Refusal::ImageShort;
@@ -66,7 +68,7 @@ fn decode(
     refusal
 }
 
-// Decodes an image into the three tables and the record.
+// Decodes an image into the three tables and the record. What the record's bytes are then asked is answered as the image's record is.
 #[no_mangle]
 pub extern "C" fn mofuleka_from_data(
     image: &[u8],
@@ -80,6 +82,7 @@ pub extern "C" fn mofuleka_from_data(
     ensures alpha { λ r. ⌜ now (alpha .exit) ≡ lentAfter (eqb r 0) (alphaBytes (imageWords (now (image .entry)))) (now (alpha .entry)) ⌝ }
     ensures k_ta { λ r. ⌜ now («k_ta» .exit) ≡ lentAfter (eqb r 0) (ktaBytes (imageWords (now (image .entry)))) (now («k_ta» .entry)) ⌝ }
     ensures record { λ r. ⌜ now («record» .exit) ≡ lentAfter (eqb r 0) (recordBytes (recordOf (imageWords (now (image .entry))))) (now («record» .entry)) ⌝ }
+    ensures stored { λ r. ⌜ (r ≡ 0 → recordIn (now («record» .exit)) ≡ recordOf (imageWords (now (image .entry)))) ⌝ }
 {
     answer(decode(image, offset, alpha, k_ta, record), 0, 0)
 }
