@@ -2,6 +2,7 @@
 // and docs/INTERFACE.md lays out every byte.
 mod answers;
 mod decoding;
+mod gatherings;
 mod questions;
 mod reading;
 mod sizes;
