@@ -10,7 +10,7 @@ use Rattle.walk.specs.Walk.{bulkSteps, pixelSteps, stepsFrom, tableSteps, walk,
 use Rattle.tables.specs.Tab.{tab}
 use Rattle.eeprom.specs.Image.{imageWords}
 use Rattle.eeprom.specs.Decoding.{refusalOf}
-use Rattle.scope.specs.Readings.{Row, setWords, asked, answer, readings}
+use Rattle.scope.specs.Readings.{setWords, asked, answer, readings}
 
 pub marked-readings : map (λ r. answer (r .question)) readings ≡ map (λ r. r .expected) readings
 unfolding readings answer asked setWords refusalOf imageWords walk tableSteps stepsFrom pixelSteps bulkSteps firstOutside rowSum columnSum wholeSum ktaSum tab recordOf kVDd vDd25 corners gradientOf A B C interleaveSix interleaveCp dyadic neg toBits

@@ -1,7 +1,7 @@
 -- The readings that the scope marks P, in one table: what is asked, and what the answer must be. Addresses are 0x2400 plus the word's number.
 -- An answer begins with the refusal's number, table and place; the numbers asked for follow, f32s as their 32 bits.
 -- Assumes nothing.
-use Prim.Native.Nat.{ℕ, zero, suc, _+_, _-_}
+use Prim.Native.Nat.{ℕ, zero, _+_, _-_}
 use mathlib.Core.Bool.{cond}
 use mathlib.Core.List.{List, [], _∷_, _++_, map}
 use lib.Dec.{eqb}
@@ -11,7 +11,6 @@ use lib.ListN.{replicate}
 use Rattle.refusal.specs.Code.{codeOf}
 use Rattle.refusal.specs.declared.Refusal.{Refusal}
 use Rattle.record.specs.Fields.{recordOf}
-use Rattle.record.specs.declared.Record.{Record}
 use Rattle.record.specs.declared.Optional.{Optional}
 use Rattle.record.specs.declared.Optional.the-variants.{Absent, Given}
 use Rattle.walk.specs.Walk.{walk, firstOutside}

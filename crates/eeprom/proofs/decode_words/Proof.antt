@@ -1,7 +1,7 @@
 -- `eeprom::decode_words` meets its contract: the walk decides, and each table and the record are written by their own function.
 -- Assumes nothing.
 use borrow.Author.Needs.{needs}
-use mathlib.Core.Path.{_≡_, refl, sym, ap, _∙_}
+use mathlib.Core.Path.{_≡_, sym, ap, _∙_}
 use mathlib.Core.Bool.{true, false}
 use Rattle.refusal.specs.Code.{acceptedBy}
 use Rattle.refusal.proofs.Apart.{accepted-none}

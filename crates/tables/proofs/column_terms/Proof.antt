@@ -3,7 +3,7 @@
 use borrow.Author.Needs.{needs}
 use native.Mathlib.Omega.{arith}
 use native.Mathlib.Nat.{mod-lt}
-use mathlib.Core.Path.{_≡_, refl, ap, _∙_}
+use mathlib.Core.Path.{_≡_, _∙_}
 use mathlib.Core.List.{_++_, append-nil}
 use Prim.Native.Nat.{ℕ, _+_, _-_, _%_, _≤_, _<_}
 use lib.Dec.{lit<}
@@ -12,8 +12,7 @@ use lib.IntN.{ℤ}
 use mir.Facts.{toZ-ofZ}
 use mir.Syntax.{w16, w32}
 use mir.Val.{SFits, toZ, ofZ}
-use Rattle.util.specs.Words.{listed, field}
-use Rattle.util.specs.Sums.{termOf}
+use Rattle.util.specs.Words.{listed}
 use Rattle.util.proofs.Whole.{back16, back32, fits-16}
 use Rattle.walk.specs.Parts.{columnTerm}
 use Rattle.tables.specs.Tab.{tab}

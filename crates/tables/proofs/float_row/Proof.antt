@@ -1,6 +1,5 @@
 -- `tables::float_row` meets its contract: each turn writes the next entry over the power of two, which is exact.
 -- Assumes nothing.
-use borrow.Author.Needs.{needs}
 use native.Mathlib.Omega.{arith}
 use mathlib.Core.Path.{_≡_, refl, ap, _∙_}
 use mathlib.Core.List.{_++_}

@@ -1,11 +1,10 @@
 -- `tables::offset_rows` meets its contract: each turn writes the next 32 entries.
 -- Assumes nothing.
-use borrow.Author.Needs.{needs}
 use native.Mathlib.Omega.{arith}
-use mathlib.Core.Path.{_≡_, refl, sym, ap, _∙_}
+use mathlib.Core.Path.{_≡_, ap, _∙_}
 use mathlib.Core.List.{_++_}
-use Prim.Native.Nat.{ℕ, _+_, _*_, _-_, _/_, _%_, _≤_, _<_}
-use lib.ListN.{length, take, drop, length-take, length-drop}
+use Prim.Native.Nat.{ℕ, _+_, _*_, _-_, _/_, _%_, _≤_}
+use lib.ListN.{length, drop, length-take, length-drop}
 use lib.IntN.{ℤ}
 use Rattle.util.specs.Words.{listed}
 use Rattle.tables.specs.Tab.{tab}
