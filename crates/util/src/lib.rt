@@ -1,20 +1,15 @@
 // Numbers as an image holds them, after the crate's util.rs: big-endian words, fields of a word, terms and running sums with the
 // 16-bit range checked, and big-endian stores into a lent slice.
 ghost use mathlib.Core.Path.{_≡_};
+ghost use mathlib.Core.Bool.{not};
 ghost use Prim.Native.Nat.{_+_, _-_, _*_, _^_, _<_, _≤_};
 ghost use lib.ListN.{getD, length};
 ghost use lib.Seq.{sets};
 ghost use lib.IntN.{natAbs, _+ℤ_};
 ghost use lib.Signed.{mag};
 ghost use Rattle.util.specs.Words.{wordAt, field, byWeight, clip, signedField};
-ghost use Rattle.util.specs.Sums.{termOf, narrowOf};
+ghost use Rattle.util.specs.Sums.{termOf, in16};
 ghost use Rattle.util.specs.Bytes.{two, four, pattern};
-
-// A whole number that 16 bits hold, or the news that they don't.
-pub enum Narrow {
-    Fits(i16),
-    Outside,
-}
 
 // Byte i, 0 past the end.
 pub fn byte(image: &[u8], i: usize) -> u8
@@ -90,17 +85,11 @@ pub fn i16_from_bits(x: u16, low: u32, width: u32) -> i16
     by_weight(power_of_two(bits - 1), u16_from_bits(x, low, bits))
 }
 
-// x, where 16 bits hold it.
-pub fn narrowed(x: i32) -> Narrow
-    ensures { λ r. ⌜ r ≡ narrowOf x ⌝ }
+// Whether x is outside -32768..32767.
+pub fn outside(x: i32) -> bool
+    ensures { λ r. ⌜ r ≡ not (in16 x) ⌝ }
 {
-    if x < -32768 {
-        return Narrow::Outside;
-    }
-    if 32767 < x {
-        return Narrow::Outside;
-    }
-    Narrow::Fits(x as i16)
+    x < -32768 || 32767 < x
 }
 
 // A term: the field f times 2 to the power that stands in the four bits of scales from bit low up.

@@ -1,8 +1,8 @@
 -- The running sums of the code go through the walk's steps in their order: `beyond` says what is left to do after each, and each `nextOf` takes one term and one sum off.
 -- Assumes nothing.
-use mathlib.Core.Path.{_≡_, refl, sym, ap, subst, _∙_}
-use mathlib.Core.Bool.{Bool, true, false, cond}
-use mathlib.Core.List.{List, [], _∷_, _++_}
+use mathlib.Core.Path.{_≡_, refl, sym, ap, _∙_}
+use mathlib.Core.Bool.{Bool, true, false}
+use mathlib.Core.List.{List, [], _∷_}
 use Prim.Native.Nat.{ℕ, _+_, _-_, _/_, _%_, _<_}
 use lib.IntN.{ℤ, _+ℤ_}
 use Rattle.refusal.specs.declared.Table.{Table}
@@ -10,10 +10,10 @@ use Rattle.refusal.specs.declared.Table.the-variants.{Offset, Alpha, Kta}
 use Rattle.refusal.specs.declared.Refusal.{Refusal}
 use Rattle.refusal.specs.declared.Refusal.the-variants as R
 use Rattle.util.specs.Words.{field, signedField}
-use Rattle.util.specs.Sums.{termOf, in16, narrowOf}
-use Rattle.walk.specs.Parts.{nibble, average, rowTerm, columnTerm, remainderTerm, rowSum, columnSum, wholeSum, ktaAverage, ktaTerm, ktaSum}
+use Rattle.util.specs.Sums.{termOf, in16}
+use Rattle.walk.specs.Parts.{nibble, average, rowTerm, columnTerm, remainderTerm, rowSum, columnSum, wholeSum, ktaAverage, ktaSum}
 use Rattle.walk.specs.Walk.{Step, term, sum, bulkSteps, pixelSteps, stepsFrom, firstOutside}
-use Rattle.walk.specs.Running.{sumTested, termTested, heldBy, nextOf, lastOf, bulkOf, pixelOf, orElse}
+use Rattle.walk.specs.Running.{addedTo, heldBy, nextOf, lastOf, bulkOf, pixelOf, orElse}
 use Rattle.walk.proofs.Order.{steps-turn}
 use Rattle.walk.specs.declared.Running.{Running}
 use Rattle.walk.specs.declared.Running.the-variants.{At, Term, Sum}
@@ -31,26 +31,22 @@ Holds Term x = Unit {0}
 Holds Sum x = Unit {0}
 
 module _ (t : Table) (p : ℕ) where
-  sum-step : (z : ℤ) (b : Bool) (rest : List Step) → in16 z ≡ b → firstOutside (sum t p z ∷ rest) ≡ beyond t p (sumTested (narrowOf z)) rest
-  unfolding firstOutside narrowOf
-  sum-step z true rest e = rw e
-  sum-step z false rest e = rw e
-
-  two-steps : (x z : ℤ) (b : Bool) (rest : List Step) → in16 z ≡ b → firstOutside (term t p z ∷ sum t p (x +ℤ z) ∷ rest) ≡ beyond t p (termTested x (narrowOf z)) rest
-  unfolding firstOutside narrowOf
-  two-steps x z true rest e = rw e (sum-step (x +ℤ z) (in16 (x +ℤ z)) rest refl)
-  two-steps x z false rest e = rw e
+  two-steps : (x z : ℤ) (b d : Bool) (rest : List Step) → in16 z ≡ b → in16 (x +ℤ z) ≡ d → firstOutside (term t p z ∷ sum t p (x +ℤ z) ∷ rest) ≡ beyond t p (addedTo x z) rest
+  unfolding firstOutside
+  two-steps x z true true rest e f = rw (e, f)
+  two-steps x z true false rest e f = rw (e, f)
+  two-steps x z false d rest e f = rw e
 
   next-steps : (r : Running) (x f : ℤ) (scale : ℕ) (rest : List Step) → Holds r x
       → beyond t p r (term t p (termOf f scale) ∷ sum t p (x +ℤ termOf f scale) ∷ rest) ≡ beyond t p (nextOf r f scale) rest
   next-steps (At v) x f scale rest h =
       ap (λ (y : ℤ). firstOutside (term t p (termOf f scale) ∷ sum t p (y +ℤ termOf f scale) ∷ rest)) (sym h)
-      ∙ two-steps v (termOf f scale) (in16 (termOf f scale)) rest refl
+      ∙ two-steps v (termOf f scale) (in16 (termOf f scale)) (in16 (v +ℤ termOf f scale)) rest refl refl
   next-steps Term x f scale rest h = refl
   next-steps Sum x f scale rest h = refl
 
-  held-step : (v z : ℤ) (b : Bool) → in16 z ≡ b → firstOutside (term t p z ∷ []) ≡ beyond t p (heldBy v (narrowOf z)) []
-  unfolding firstOutside narrowOf
+  held-step : (v z : ℤ) (b : Bool) → in16 z ≡ b → firstOutside (term t p z ∷ []) ≡ beyond t p (heldBy v z) []
+  unfolding firstOutside
   held-step v z true e = rw e
   held-step v z false e = rw e
 
@@ -59,18 +55,13 @@ module _ (t : Table) (p : ℕ) where
   last-step Term f scale = refl
   last-step Sum f scale = refl
 
-sum-holds : (z : ℤ) (b : Bool) → in16 z ≡ b → Holds (sumTested (narrowOf z)) z
-unfolding narrowOf
-sum-holds z true e = rw e
-sum-holds z false e = rw e tt
-
-term-holds : (v x z : ℤ) (b : Bool) → in16 z ≡ b → v ≡ x → Holds (termTested v (narrowOf z)) (x +ℤ z)
-unfolding narrowOf
-term-holds v x z true e h = rw (e, h) (sum-holds (x +ℤ z) (in16 (x +ℤ z)) refl)
-term-holds v x z false e h = rw e tt
+added-holds : (v x z : ℤ) (b d : Bool) → in16 z ≡ b → in16 (x +ℤ z) ≡ d → v ≡ x → Holds (addedTo v z) (x +ℤ z)
+added-holds v x z true true e f h = rw (h, e, f)
+added-holds v x z true false e f h = rw (h, e, f) tt
+added-holds v x z false d e f h = rw e tt
 
 next-holds : (r : Running) (x f : ℤ) (scale : ℕ) → Holds r x → Holds (nextOf r f scale) (x +ℤ termOf f scale)
-next-holds (At v) x f scale h = term-holds v x (termOf f scale) (in16 (termOf f scale)) refl h
+next-holds (At v) x f scale h = added-holds v x (termOf f scale) (in16 (termOf f scale)) (in16 (x +ℤ termOf f scale)) refl refl h
 next-holds Term x f scale h = tt
 next-holds Sum x f scale h = tt
 

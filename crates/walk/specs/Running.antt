@@ -8,24 +8,17 @@ use Rattle.refusal.specs.declared.Table.the-variants.{Offset, Alpha, Kta}
 use Rattle.refusal.specs.Code.{acceptedBy}
 use Rattle.refusal.specs.declared.Refusal.{Refusal}
 use Rattle.util.specs.Words.{field, signedField}
-use Rattle.util.specs.Sums.{termOf, narrowOf}
-use Rattle.util.specs.declared.Narrow.{Narrow}
-use Rattle.util.specs.declared.Narrow.the-variants.{Fits, Outside}
+use Rattle.util.specs.Sums.{termOf, in16}
 use Rattle.walk.specs.Parts.{nibble, average, ktaAverage}
 use Rattle.walk.specs.declared.Running.{Running}
 use Rattle.walk.specs.declared.Running.the-variants.{At, Term, Sum}
 
 -- one term added to a running sum: the term is tested first, then the sum
-abbrev pub sumTested : Narrow → Running
-sumTested (Fits s) = At s
-sumTested Outside = Sum
-
-abbrev pub termTested : ℤ → Narrow → Running
-termTested acc (Fits t) = sumTested (narrowOf (acc +ℤ t))
-termTested acc Outside = Term
+abbrev pub addedTo : ℤ → ℤ → Running
+addedTo acc t = cond (in16 t) (cond (in16 (acc +ℤ t)) (At (acc +ℤ t)) Sum) Term
 
 abbrev pub addedOf : ℤ → ℤ → ℕ → Running
-addedOf acc f scale = termTested acc (narrowOf (termOf f scale))
+addedOf acc f scale = addedTo acc (termOf f scale)
 
 -- the same past an earlier fault
 abbrev pub nextOf : Running → ℤ → ℕ → Running
@@ -34,12 +27,11 @@ nextOf Term f scale = Term
 nextOf Sum f scale = Sum
 
 -- one term tested and not added
-abbrev pub heldBy : ℤ → Narrow → Running
-heldBy acc (Fits t) = At acc
-heldBy acc Outside = Term
+abbrev pub heldBy : ℤ → ℤ → Running
+heldBy acc t = cond (in16 t) (At acc) Term
 
 abbrev pub besideOf : ℤ → ℤ → ℕ → Running
-besideOf acc f scale = heldBy acc (narrowOf (termOf f scale))
+besideOf acc f scale = heldBy acc (termOf f scale)
 
 abbrev pub lastOf : Running → ℤ → ℕ → Running
 lastOf (At acc) f scale = besideOf acc f scale

@@ -2,12 +2,10 @@
 use refusal::Refusal;
 use refusal::Table;
 use refusal::accepted;
-use util::Narrow;
 use util::i16_from_bits;
 use util::magnitude;
-use util::narrowed;
+use util::outside;
 use util::power_of_two;
-use util::sum;
 use util::term;
 use util::u16_from_bits;
 ghost use mathlib.Core.Path.{_≡_};
@@ -31,17 +29,15 @@ pub enum Running {
 fn added(acc: i16, f: i16, scales: u16, low: u32) -> Running
     ensures { λ r. ⌜ r ≡ addedOf acc f (field scales low 4) ⌝ }
 {
-    let narrow_term = narrowed(term(f, scales, low));
-    match narrow_term {
-        Narrow::Outside => Running::Term,
-        Narrow::Fits(t) => {
-            let narrow_sum = narrowed(sum(acc, t));
-            match narrow_sum {
-                Narrow::Outside => Running::Sum,
-                Narrow::Fits(s) => Running::At(s),
-            }
-        }
+    let product = term(f, scales, low);
+    let total = (acc as i32) + product;
+    if outside(product) {
+        return Running::Term;
     }
+    if outside(total) {
+        return Running::Sum;
+    }
+    Running::At(total as i16)
 }
 
 // The same past an earlier fault.
@@ -59,10 +55,10 @@ fn next(s: Running, f: i16, scales: u16, low: u32) -> Running
 fn beside(acc: i16, f: i16, scales: u16, low: u32) -> Running
     ensures { λ r. ⌜ r ≡ besideOf acc f (field scales low 4) ⌝ }
 {
-    let narrow_term = narrowed(term(f, scales, low));
-    match narrow_term {
-        Narrow::Outside => Running::Term,
-        Narrow::Fits(_) => Running::At(acc),
+    if outside(term(f, scales, low)) {
+        Running::Term
+    } else {
+        Running::At(acc)
     }
 }
 

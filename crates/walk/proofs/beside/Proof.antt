@@ -1,23 +1,21 @@
--- `walk::beside` meets its contract: the term alone is narrowed.
+-- `walk::beside` meets its contract: the term alone is tested.
 -- Assumes nothing.
 use borrow.Author.Needs.{needs}
 use mathlib.Core.Path.{_≡_, ap}
+use mathlib.Core.Bool.{Bool, true, false, not}
 use mir.Facts.{toZ-ofZ}
 use Rattle.util.specs.Words.{field}
-use Rattle.util.specs.Sums.{narrowOf, termOf}
-use Rattle.util.proofs.Whole.{back32}
+use Rattle.util.specs.Sums.{in16, termOf}
+use Rattle.util.proofs.Whole.{back32, not-outside}
 use Rattle.walk.specs.declared.Running.the-variants.{At}
 use Rattle.walk.proofs.beside.Statement.{statement}
 use Rattle.walk.proofs.beside.Tie as tie
 
-term-is : (c : tie.After-narrowed) → let s = c .before .before .args in narrowOf (termOf (s .f) (field (s .scales) (s .low) 4)) ≡ c .narrowed .result
-term-is c = cc (back32 (c .before .term .result) (c .before .term .ok), toZ-ofZ (c .before .before .fits .f))
-
-returns : tie.Need-returns
-returns c = rw (term-is (c .before .before), c .enum-told .given .1)
-
-returns-2 : tie.Need-returns-2
-returns-2 c = rw (term-is (c .before .before), c .enum-told2 .given .1) (ap At (toZ-ofZ (c .before .before .before .before .fits .acc)))
+tested : (c : tie.After-outside) (d : Bool) → c .outside .result ≡ d → let s = c .before .before .args in in16 (termOf (s .f) (field (s .scales) (s .low) 4)) ≡ not d
+tested c d e =
+    let s = c .before .before in
+    not-outside (termOf (s .args .f) (field (s .args .scales) (s .args .low) 4)) d
+    (cc (c .outside .ensures, back32 (c .before .term .result) (c .before .term .ok), toZ-ofZ (s .fits .f), e))
 
 pub beside-spec : {M : Type 1} → statement M
 beside-spec =
@@ -25,7 +23,5 @@ beside-spec =
     (tie.spec
     (λ c κs. search needs)
     (λ c κs. search needs)
-    (λ c. search needs)
-    (λ c. search needs)
-    returns
-    returns-2)
+    (λ c. rw (tested (c .before) true (c .if1 .taken)))
+    (λ c. rw (tested (c .before) false (c .if1 .left)) (ap At (toZ-ofZ (c .before .before .before .fits .acc)))))
