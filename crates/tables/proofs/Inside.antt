@@ -1,29 +1,30 @@
 -- Where the walk finds nothing, what the code adds up row by row is what the walk has tested, so every number on the way fits.
 -- Assumes nothing.
-use mathlib.Core.Path.{_≡_, refl, sym, ap, subst, _∙_}
+use mathlib.Core.Path.{_≡_, refl, ap, _∙_}
 use mathlib.Core.Bool.{true}
-use mathlib.Core.List.{List, [], _∷_, _++_}
-use Prim.Native.Nat.{ℕ, zero, suc, _+_, _-_, _*_, _/_, _%_, _^_, _≤_, _<_}
+use mathlib.Core.List.{List}
+use Prim.Native.Nat.{ℕ, zero, suc, _+_, _-_, _*_, _/_, _%_, _^_, _<_}
 use native.Mathlib.Nat.{lt-of-le-of-lt}
 use native.Mathlib.Omega.{arith}
 use borrow.Author.Tests.{ltb-true, lt-ltb}
-use lib.Dec.{ltb, lit<}
-use lib.ListN.{getD, replicate, drop}
-use lib.IntN.{ℤ, pos, natAbs, _+ℤ_, _*ℤ_, +ℤ-idl}
+use lib.Dec.{lit<}
+use lib.ListN.{getD, replicate}
+use lib.IntN.{ℤ, pos, natAbs, _+ℤ_, +ℤ-idl}
 use lib.Signed.{mag, natAbs-le}
 use Rattle.refusal.specs.declared.Table.{Table}
 use Rattle.refusal.specs.declared.Table.the-variants.{Offset, Alpha, Kta}
 use Rattle.refusal.specs.declared.Refusal.the-variants.{None}
 use Rattle.util.specs.Words.{field, byWeight, signedField}
-use Rattle.util.specs.Sums.{in16, termOf}
+use Rattle.util.specs.Sums.{in16}
 use Rattle.util.proofs.Whole.{mag-sum}
 use Rattle.util.proofs.Width.{field-below, signed-below}
-use Rattle.walk.specs.Parts.{average, rowTerm, columnTerm, remainderTerm, rowSum, columnSum, wholeSum, chessboard, ktaAverage, ktaTerm, ktaSum}
-use Rattle.walk.specs.Walk.{Step, firstOutside, AllInside, bulkSteps, pixelSteps, walk}
+use Rattle.util.specs.Pixels.{chessboard}
+use Rattle.walk.specs.Parts.{rowTerm, columnTerm, remainderTerm, rowSum, columnSum, wholeSum, ktaAverage, ktaTerm, ktaSum}
+use Rattle.walk.specs.Walk.{firstOutside, AllInside, bulkSteps, pixelSteps, walk}
 use Rattle.walk.proofs.Meaning.{accepted-inside, walk-calm}
 use Rattle.tables.specs.Tab.{tab}
-use Rattle.tables.specs.Rows.{columnPart, rowEntry, PartsFit, TermsFit, EntriesFit, EntriesExact, RowsFit, ColumnsFit}
-use Rattle.tables.proofs.Filled.{tab-at, tab-same}
+use Rattle.tables.specs.Rows.{columnPart, rowEntry, PartsFit, TermsFit, EntriesExact, RowsFit, ColumnsFit}
+use Rattle.tables.proofs.Filled.{tab-at}
 
 -- what offset and alpha share of a pixel's steps
 pub record Inside (w : ℕ → ℕ) (base low p : ℕ) : Type 0 where

@@ -1,6 +1,6 @@
 -- Where the sizes of all the numbers that can be added up stay below 2 ^ 15 together, none of them and no sum of some of them leaves 16 bits, so the walk finds nothing.
 -- Assumes nothing.
-use mathlib.Core.Path.{_≡_, refl, sym, ap, subst, _∙_}
+use mathlib.Core.Path.{_≡_, refl}
 use mathlib.Core.Bool.{Bool, true, false, cond}
 use mathlib.Core.List.{List, [], _∷_, _++_}
 use Prim.Native.Nat.{ℕ, zero, suc, _+_, _-_, _*_, _/_, _%_, _^_, _≤_, _<_}
@@ -9,17 +9,18 @@ use native.Mathlib.Omega.{arith}
 use borrow.Author.Tests.{lt-ltb, ltb-true}
 use lib.Dec.{ltb, lit<}
 use lib.IntN.{ℤ, pos, negsuc, negℤ, natAbs, _+ℤ_, _*ℤ_}
-use lib.Signed.{mag, natAbs-le}
+use lib.Signed.{natAbs-le}
 use Rattle.refusal.specs.declared.Table.{Table}
 use Rattle.refusal.specs.declared.Table.the-variants.{Offset, Alpha, Kta}
 use Rattle.refusal.specs.declared.Refusal.the-variants.{None}
 use Rattle.util.specs.Words.{field, byWeight, signedField}
 use Rattle.util.specs.Sums.{in16, termOf}
 use Rattle.util.proofs.Width.{field-below, signed-below}
-use Rattle.walk.specs.Parts.{nibble, average, rowTerm, columnTerm, remainderTerm, rowSum, columnSum, wholeSum, chessboard, ktaAverage, ktaTerm, ktaSum}
+use Rattle.util.specs.Pixels.{chessboard}
+use Rattle.walk.specs.Parts.{nibble, average, rowTerm, columnTerm, remainderTerm, rowSum, columnSum, wholeSum, ktaAverage, ktaTerm, ktaSum}
 use Rattle.walk.specs.Walk.{Step, sum, valueIn, AllInside, bulkSteps, pixelSteps, walk, firstOutside}
 use Rattle.walk.specs.Calm.{Reaches, CalmBulk, CalmKta}
-use Rattle.walk.proofs.Meaning.{Calm, inside-accepted, calm-walk}
+use Rattle.walk.proofs.Meaning.{inside-accepted, calm-walk}
 
 -- ---- sizes
 less-or : (t : Bool) (a b : ℕ) → ltb a (suc b) ≡ t → natAbs (cond t (negsuc (suc b - suc a)) (pos (a - suc b))) ≤ a + suc b
