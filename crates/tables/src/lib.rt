@@ -179,10 +179,16 @@ fn column_terms(words: &[u16; 832], base: usize) -> [i16; 64]
 fn k_ta_columns(words: &[u16; 832]) -> [i16; 64]
     ensures { λ s. ⌜ s ≡ tab (ktaAverage (listed (now (words .entry)))) 64 ⌝ }
 {
+    let order = [
+        k_ta_average(words, 0),
+        k_ta_average(words, 32),
+        k_ta_average(words, 1),
+        k_ta_average(words, 33),
+    ];
     let mut averages = [0; 64];
     let mut i = 0;
     while i < 64 {
-        averages[i] = k_ta_average(words, i);
+        averages[i] = order[i / 32 + 2 * (i % 2)];
         i += 1;
     }
     averages
