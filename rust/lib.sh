@@ -81,3 +81,13 @@ native() {
   cc=cc
   cxx=c++
 }
+
+# native_module MODULE ARCHIVE: compiles a module of the kit's compiler for this machine's own processor.
+native_module() {
+  local kit
+  kit=$(cd "$(dirname "$(readlink -f "$(command -v rt)")")/.." && pwd -P)
+  "$kit/on/$machine/toolchain/bin/clang" --target="$machine-unknown-linux-gnu" -Wno-override-module -O3 -fPIC -ffunction-sections \
+    -c -x ir "$1" -o "$2.o" 2>/dev/null
+  ar rcs "$2" "$2.o"
+  rm "$2.o"
+}

@@ -38,6 +38,54 @@ impl Lent {
     }
 }
 
+extern "C" {
+    fn speed_from_data(
+        image: *const u8,
+        image_len: usize,
+        offset: *mut i16,
+        offset_len: usize,
+        alpha: *mut f32,
+        alpha_len: usize,
+        k_ta: *mut f32,
+        k_ta_len: usize,
+        record: *mut u8,
+        record_len: usize,
+    ) -> u8;
+}
+
+/// Tables as the library itself writes them, and the record's bytes.
+struct Own {
+    offset: [i16; 768],
+    alpha: [f32; 768],
+    k_ta: [f32; 768],
+    record: [u8; 122],
+}
+
+impl Own {
+    fn new() -> Self {
+        Self { offset: [0; 768], alpha: [0.0; 768], k_ta: [0.0; 768], record: [0; 122] }
+    }
+
+    fn decode(&mut self, image: &[u8]) -> u64 {
+        // Each pointer is valid for the length beside it, and no two slices overlap.
+        let number = unsafe {
+            speed_from_data(
+                image.as_ptr(),
+                image.len(),
+                self.offset.as_mut_ptr(),
+                self.offset.len(),
+                self.alpha.as_mut_ptr(),
+                self.alpha.len(),
+                self.k_ta.as_mut_ptr(),
+                self.k_ta.len(),
+                self.record.as_mut_ptr(),
+                self.record.len(),
+            )
+        };
+        u64::from(number) + u64::from(self.record[0])
+    }
+}
+
 /// What a case must answer: accepted with the crate's numbers, or a refusal.
 fn refused(image: &[u8]) -> (u8, u8, usize) {
     match Calibration::from_data(image) {
@@ -147,6 +195,12 @@ fn main() {
         assert!(l.offset.chunks_exact(2).zip(judge.offset()).all(|(b, x)| b == x.to_be_bytes()));
         assert!(l.alpha.chunks_exact(4).zip(judge.alpha()).all(|(b, x)| b == x.to_bits().to_be_bytes()));
         assert!(l.k_ta.chunks_exact(4).zip(judge.k_ta()).all(|(b, x)| b == x.to_bits().to_be_bytes()));
+        let mut own = Own::new();
+        own.decode(image);
+        assert!(own.record == judge.record());
+        assert!(own.offset.iter().zip(judge.offset()).all(|(a, b)| a == b));
+        assert!(own.alpha.iter().zip(judge.alpha()).all(|(a, b)| a.to_bits() == b.to_bits()));
+        assert!(own.k_ta.iter().zip(judge.k_ta()).all(|(a, b)| a.to_bits() == b.to_bits()));
     }
 
     let mut full = Gathering::new();
@@ -174,6 +228,8 @@ fn main() {
         };
         case("the crate against itself", &mut |_| crate_decodes(&lifelike));
         case("decode, lifelike", &mut |_| l.decode(&lifelike));
+        let mut own = Own::new();
+        case("decode, lifelike, own tables", &mut |_| own.decode(&lifelike));
         case("decode, accepted past the bound", &mut |_| l.decode(&past));
         case("decode, refused at the first pixel", &mut |_| l.decode(&first));
         case("decode, refused at the last offset", &mut |_| l.decode(&last));
