@@ -4,4 +4,3 @@ pub mod Agreement
 pub mod Datasheet
 pub mod Refusals
 pub mod SameWords
-pub mod OneAnswer
