@@ -70,6 +70,27 @@ pub trait Judge: Sized {
     fn addresses() -> Vec<u16>;
 }
 
+/// Every address that a crate names, in one order: of the camera and of its RAM.
+#[macro_export]
+macro_rules! addresses {
+    () => {
+        vec![
+            Mlx90640::T_A_V_BE.into(),
+            Mlx90640::T_A_PTAT.into(),
+            Mlx90640::GAIN.into(),
+            Mlx90640::V_DD_PIXEL.into(),
+            RamAddress::Base.into(),
+            RamAddress::AmbientTemperatureVoltageBe.into(),
+            RamAddress::CompensationPixelZero.into(),
+            RamAddress::Gain.into(),
+            RamAddress::AmbientTemperatureVoltage.into(),
+            RamAddress::CompensationPixelOne.into(),
+            RamAddress::PixelSupplyVoltage.into(),
+            RamAddress::End.into(),
+        ]
+    };
+}
+
 macro_rules! judge {
     ($name:ident, $krate:ident) => {
         mod $name {
@@ -219,20 +240,7 @@ macro_rules! judge {
                 }
 
                 fn addresses() -> Vec<u16> {
-                    vec![
-                        Mlx90640::T_A_V_BE.into(),
-                        Mlx90640::T_A_PTAT.into(),
-                        Mlx90640::GAIN.into(),
-                        Mlx90640::V_DD_PIXEL.into(),
-                        RamAddress::Base.into(),
-                        RamAddress::AmbientTemperatureVoltageBe.into(),
-                        RamAddress::CompensationPixelZero.into(),
-                        RamAddress::Gain.into(),
-                        RamAddress::AmbientTemperatureVoltage.into(),
-                        RamAddress::CompensationPixelOne.into(),
-                        RamAddress::PixelSupplyVoltage.into(),
-                        RamAddress::End.into(),
-                    ]
+                    $crate::addresses!()
                 }
             }
         }

@@ -345,20 +345,7 @@ fn camera(tally: &mut Tally) {
     }
     tally.same(|| "sizes".into(), lent::sizes(), [1664, 1536, 3072, 3072, 122, 2496]);
     use mofuleka::{Mlx90640, RamAddress};
-    let ours: Vec<u16> = vec![
-        Mlx90640::T_A_V_BE.into(),
-        Mlx90640::T_A_PTAT.into(),
-        Mlx90640::GAIN.into(),
-        Mlx90640::V_DD_PIXEL.into(),
-        RamAddress::Base.into(),
-        RamAddress::AmbientTemperatureVoltageBe.into(),
-        RamAddress::CompensationPixelZero.into(),
-        RamAddress::Gain.into(),
-        RamAddress::AmbientTemperatureVoltage.into(),
-        RamAddress::CompensationPixelOne.into(),
-        RamAddress::PixelSupplyVoltage.into(),
-        RamAddress::End.into(),
-    ];
+    let ours: Vec<u16> = compare::addresses!();
     tally.same(|| "addresses".into(), ours, Release::addresses());
     if let Outcome::Panic(text) = Release::resolution_correction(0, 0) {
         tally.different(|| text);

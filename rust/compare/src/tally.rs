@@ -97,10 +97,10 @@ impl Tally {
     }
 
     pub fn print(&self) {
-        println!("{:<34} {:>10} {:>10} {:>14} {:>10}", "kind", "images", "accepted", "numbers", "different");
+        println!("{:<38} {:>10} {:>10} {:>14} {:>10}", "kind", "images", "accepted", "numbers", "different");
         for (name, kind) in &self.kinds {
             println!(
-                "{:<34} {:>10} {:>10} {:>14} {:>10}",
+                "{:<38} {:>10} {:>10} {:>14} {:>10}",
                 name, kind.images, kind.accepted, kind.numbers, kind.different
             );
         }

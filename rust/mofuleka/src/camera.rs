@@ -1,3 +1,4 @@
+//! The camera: patterns, subpages, read ranges and addresses, under the original crate's names.
 use std::fmt;
 use std::iter::FusedIterator;
 

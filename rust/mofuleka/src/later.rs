@@ -1,3 +1,4 @@
+//! A cell that is filled when it is first asked for.
 use std::cell::UnsafeCell;
 use std::sync::Once;
 

@@ -1,3 +1,4 @@
+//! Refusals: number, table and place, and the sentence that a person reads.
 use std::error::Error;
 use std::fmt;
 
