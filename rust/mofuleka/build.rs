@@ -38,7 +38,17 @@ fn main() {
             println!("cargo:rerun-if-changed={}", Path::new(&path).display());
             PathBuf::from(path)
         }
-        None => built_at(&here.join("../..")),
+        None => {
+            let processor = env::var("CARGO_CFG_TARGET_ARCH").expect("cargo sets CARGO_CFG_TARGET_ARCH");
+            if processor != "x86_64" {
+                fail(format!(
+                    "rt's archive is for x86-64, and this build is for {}: build for x86_64-unknown-linux-gnu, or set MOFULEKA_ARCHIVE to an \
+                     archive for {} (rust/compare/native-archive writes one)",
+                    processor, processor
+                ));
+            }
+            built_at(&here.join("../.."))
+        }
     };
     // A copy under a fixed name, so that the archive may be called anything.
     if let Err(error) = fs::copy(&archive, out.join("libmofuleka.a")) {
