@@ -213,7 +213,7 @@ fn calm_k_ta(words: &[u16; 832]) -> bool
     128 + 4 * scale_power(words, 0x38, 0) < 32768
 }
 
-// Whether a glance shows that the walk finds nothing. Every head as it comes from its maker is calm; where one isn't, the walk decides.
+// Whether a glance shows that the walk finds nothing. A lifelike image is calm; where one isn't, the walk decides.
 fn calm(words: &[u16; 832]) -> bool
     ensures { λ r. ⌜ (r ≡ true → firstOutside (walk (listed (now (words .entry)))) ≡ None) ⌝ }
 {
