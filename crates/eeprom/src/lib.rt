@@ -16,7 +16,8 @@ ghost use Rattle.record.specs.Fields.{blankRecord};
 ghost use Rattle.walk.specs.Walk.{walk, firstOutside};
 ghost use Rattle.tables.specs.Tab.{tab};
 ghost use Rattle.tables.specs.Entries.{offsetAt, alphaAt, ktaAt};
-ghost use Rattle.eeprom.specs.Image.{imageWords, swapped};
+ghost use Rattle.eeprom.specs.Image.{imageWords};
+ghost use Rattle.eeprom.specs.Inner.Pairs.{swapped};
 ghost use Rattle.eeprom.specs.Decoding.{answered, decodedOf, tableAfter};
 
 // A refusal, and the record beside it: blank unless the call was accepted.

@@ -6,7 +6,6 @@ use mathlib.Core.List.{List}
 use Prim.Native.Nat.{ℕ, zero, suc, _+_, _-_, _*_, _/_, _%_, _^_, _<_}
 use native.Mathlib.Nat.{lt-of-le-of-lt}
 use native.Mathlib.Omega.{arith}
-use borrow.Author.Tests.{ltb-true, lt-ltb}
 use lib.Dec.{lit<}
 use lib.ListN.{getD, replicate}
 use lib.IntN.{ℤ, pos, natAbs, _+ℤ_, +ℤ-idl}
@@ -16,14 +15,14 @@ use Rattle.refusal.specs.declared.Table.the-variants.{Offset, Alpha, Kta}
 use Rattle.refusal.specs.declared.Refusal.the-variants.{None}
 use Rattle.util.specs.Words.{field, byWeight, signedField}
 use Rattle.util.specs.Sums.{in16}
-use Rattle.util.proofs.Whole.{mag-sum}
+use Rattle.util.proofs.Whole.{mag-sum, inside, is-inside}
 use Rattle.util.proofs.Width.{field-below, signed-below}
 use Rattle.util.specs.Pixels.{chessboard}
 use Rattle.walk.specs.Parts.{rowTerm, columnTerm, remainderTerm, rowSum, columnSum, wholeSum, ktaAverage, ktaTerm, ktaSum}
 use Rattle.walk.specs.Walk.{firstOutside, AllInside, bulkSteps, pixelSteps, walk}
 use Rattle.walk.proofs.Meaning.{accepted-inside, walk-calm}
 use Rattle.tables.specs.Tab.{tab}
-use Rattle.tables.specs.Rows.{columnPart, rowEntry, PartsFit, TermsFit, EntriesExact, RowsFit, ColumnsFit}
+use Rattle.tables.specs.Inner.Rows.{columnPart, rowEntry, PartsFit, TermsFit, EntriesExact, RowsFit, ColumnsFit}
 use Rattle.tables.proofs.Filled.{tab-at}
 
 -- what offset and alpha share of a pixel's steps
@@ -57,16 +56,13 @@ module _ (w : ℕ → ℕ) (e : firstOutside (walk w) ≡ None) where
   unfolding pixelSteps AllInside
   kta-inside p h = let s = steps Kta p h in (s .0, s .1 .0)
 
-small : (z : ℤ) → in16 z ≡ true → mag z < 32768
-small z e = ltb-true (mag z) 32768 e
-
 pub exact-sum : (a b : ℤ) → in16 a ≡ true → in16 b ≡ true → natAbs (a +ℤ b) < 2 ^ 24
 exact-sum a b h k =
-    let l : mag (a +ℤ b) < 65536 = omega (arith, mag-sum a b, small a h, small b k) in
+    let l : mag (a +ℤ b) < 65536 = omega (arith, mag-sum a b, inside a h, inside b k) in
     lt-of-le-of-lt (natAbs-le (a +ℤ b) l) (lit< tt)
 
 pub exact-one : (a : ℤ) → in16 a ≡ true → natAbs a < 2 ^ 24
-exact-one a h = lt-of-le-of-lt (natAbs-le a (small a h)) (lit< tt)
+exact-one a h = lt-of-le-of-lt (natAbs-le a (inside a h)) (lit< tt)
 
 -- a pixel's row and column
 module _ (r c : ℕ) (hc : c < 32) where
@@ -153,7 +149,7 @@ module _ (w : ℕ → ℕ) (columns : List ℤ) (power : ℕ) (ec : columns ≡ 
       let x = w (0x36 + k / 2) in
       let v = field x (8 * (1 - k % 2)) 8 in
       rw (kta-part r c hr hc)
-      (lt-ltb (mag (byWeight 128 v)) 32768 (omega (arith, signed-below 128 v (field-below x (8 * (1 - k % 2)) 8 (lit< tt)))))
+      (is-inside (byWeight 128 v) (omega (arith, signed-below 128 v (field-below x (8 * (1 - k % 2)) 8 (lit< tt)))))
 
   pub kta-terms-fit : firstOutside (walk w) ≡ None → TermsFit w 1 3 power
   kta-terms-fit e r c hr hc = rw ep (kta-inside w e (32 * r + c) (omega arith) .0)

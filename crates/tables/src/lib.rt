@@ -1,4 +1,11 @@
 // The three lent tables, written from an image's words in which the walk has found no fault.
+use camera::AVERAGE;
+use camera::COLUMNS;
+use camera::OFFSET_COMPENSATION;
+use camera::PIXEL_CALIBRATION;
+use camera::ROWS;
+use camera::SENSITIVITY_SCALE;
+use camera::V_AND_TA_SCALE;
 use exact::over;
 use exact::up_power;
 use util::i16_from_bits;
@@ -21,7 +28,7 @@ ghost use Rattle.walk.specs.Parts.{rowSum, columnTerm, ktaAverage};
 ghost use Rattle.walk.specs.Walk.{walk, firstOutside};
 ghost use Rattle.tables.specs.Tab.{tab, written};
 ghost use Rattle.tables.specs.Entries.{offsetAt, alphaAt, ktaAt};
-ghost use Rattle.tables.specs.Rows.{rowEntry, PartsFit, TermsFit, EntriesFit, EntriesExact, RowsFit, ColumnsFit};
+ghost use Rattle.tables.specs.Inner.Rows.{rowEntry, PartsFit, TermsFit, EntriesFit, EntriesExact, RowsFit, ColumnsFit};
 
 // f x power.
 fn times(f: i16, power: u16) -> i16
@@ -45,7 +52,7 @@ fn row_entry(
     requires { ⌜ (r < 24) × (c < 32) × (power ≤ 32768) × PartsFit (now rows) (now columns) × TermsFit (listed (now words)) low width power ⌝ }
     ensures { λ s. ⌜ s ≡ rowEntry (listed (now (words .entry))) (now (rows .entry)) (now (columns .entry)) low width power r c ⌝ }
 {
-    let own = i16_from_bits(words[0x40 + (32 * r + c)], low, width);
+    let own = i16_from_bits(words[PIXEL_CALIBRATION + (32 * r + c)], low, width);
     sum(rows[r] + columns[32 * (r % 2) + c], times(own, power))
 }
 
@@ -150,11 +157,11 @@ fn row_sums(words: &[u16; 832], base: usize) -> [i16; 24]
     requires { ⌜ (base ≤ 32) × RowsFit (listed (now words)) base ⌝ }
     ensures { λ s. ⌜ s ≡ tab (rowSum (listed (now (words .entry))) base) 24 ⌝ }
 {
-    let average = i16_from_bits(words[base + 1], 0, 16);
+    let average = i16_from_bits(words[base + AVERAGE], 0, 16);
     let mut sums = [0; 24];
     let mut r = 0;
     while r < 24 {
-        let own = term(nibble_at(words, base + 2, r), words[base], 8) as i16;
+        let own = term(nibble_at(words, base + ROWS, r), words[base], 8) as i16;
         sums[r] = sum(average, own) as i16;
         r += 1;
     }
@@ -169,7 +176,7 @@ fn column_terms(words: &[u16; 832], base: usize) -> [i16; 64]
     let mut terms = [0; 64];
     let mut i = 0;
     while i < 64 {
-        terms[i] = term(nibble_at(words, base + 8, i % 32), words[base], 4) as i16;
+        terms[i] = term(nibble_at(words, base + COLUMNS, i % 32), words[base], 4) as i16;
         i += 1;
     }
     terms
@@ -208,9 +215,9 @@ pub fn fill_offset(words: &[u16; 832], out: &mut [i16])
     requires { ⌜ (firstOutside (walk (listed (now words))) ≡ None) × (768 ≤ length (now out)) ⌝ }
     ensures { λ _. ⌜ now (out .exit) ≡ written (offsetAt (listed (now (words .entry)))) (now (out .entry)) ⌝ }
 {
-    let rows = row_sums(words, 0x10);
-    let columns = column_terms(words, 0x10);
-    let power = remainder_power(words, 0x10);
+    let rows = row_sums(words, OFFSET_COMPENSATION);
+    let columns = column_terms(words, OFFSET_COMPENSATION);
+    let power = remainder_power(words, OFFSET_COMPENSATION);
     offset_rows(words, &rows, &columns, power, out);
 }
 
@@ -219,10 +226,10 @@ pub fn fill_alpha(words: &[u16; 832], out: &mut [f32])
     requires { ⌜ (firstOutside (walk (listed (now words))) ≡ None) × (768 ≤ length (now out)) ⌝ }
     ensures { λ _. ⌜ now (out .exit) ≡ written (alphaAt (listed (now (words .entry)))) (now (out .entry)) ⌝ }
 {
-    let rows = row_sums(words, 0x20);
-    let columns = column_terms(words, 0x20);
-    let power = remainder_power(words, 0x20);
-    let k = u16_from_bits(words[0x20], 12, 4) as usize + 30;
+    let rows = row_sums(words, SENSITIVITY_SCALE);
+    let columns = column_terms(words, SENSITIVITY_SCALE);
+    let power = remainder_power(words, SENSITIVITY_SCALE);
+    let k = u16_from_bits(words[SENSITIVITY_SCALE], 12, 4) as usize + 30;
     float_rows(words, &rows, &columns, 4, 6, power, k, out);
 }
 
@@ -233,7 +240,7 @@ pub fn fill_k_ta(words: &[u16; 832], out: &mut [f32])
 {
     let rows = [0; 24];
     let columns = k_ta_columns(words);
-    let power = remainder_power(words, 0x38);
-    let k = u16_from_bits(words[0x38], 4, 4) as usize + 8;
+    let power = remainder_power(words, V_AND_TA_SCALE);
+    let k = u16_from_bits(words[V_AND_TA_SCALE], 4, 4) as usize + 8;
     float_rows(words, &rows, &columns, 1, 3, power, k, out);
 }

@@ -6,7 +6,7 @@ use mathlib.Core.List.{List, [], _∷_, _++_}
 use Prim.Native.Nat.{ℕ, zero, suc, _+_, _-_, _*_, _/_, _%_, _^_, _≤_, _<_}
 use native.Mathlib.Nat.{mul-le-mul-left, mul-le-mul-right, le-trans}
 use native.Mathlib.Omega.{arith}
-use borrow.Author.Tests.{lt-ltb, ltb-true}
+use borrow.Author.Tests.{ltb-true}
 use lib.Dec.{ltb, lit<}
 use lib.IntN.{ℤ, pos, negsuc, negℤ, natAbs, _+ℤ_, _*ℤ_}
 use lib.Signed.{natAbs-le}
@@ -16,10 +16,11 @@ use Rattle.refusal.specs.declared.Refusal.the-variants.{None}
 use Rattle.util.specs.Words.{field, byWeight, signedField}
 use Rattle.util.specs.Sums.{in16, termOf}
 use Rattle.util.proofs.Width.{field-below, signed-below}
+use Rattle.util.proofs.Whole.{is-inside}
 use Rattle.util.specs.Pixels.{chessboard}
 use Rattle.walk.specs.Parts.{nibble, average, rowTerm, columnTerm, remainderTerm, rowSum, columnSum, wholeSum, ktaAverage, ktaTerm, ktaSum}
 use Rattle.walk.specs.Walk.{Step, sum, valueIn, AllInside, bulkSteps, pixelSteps, walk, firstOutside}
-use Rattle.walk.specs.Calm.{Reaches, CalmBulk, CalmKta}
+use Rattle.walk.specs.Inner.Calm.{Reaches, CalmBulk, CalmKta}
 use Rattle.walk.proofs.Meaning.{inside-accepted, calm-walk}
 
 -- ---- sizes
@@ -42,8 +43,8 @@ size-times (pos a) n = refl
 size-times (negsuc a) n = size-neg (suc a * n)
 
 small : (z : ℤ) → natAbs z < 32768 → in16 z ≡ true
-small (pos n) h = lt-ltb n 32768 h
-small (negsuc n) h = lt-ltb n 32768 (omega arith)
+small (pos n) h = is-inside (pos n) h
+small (negsuc n) h = is-inside (negsuc n) (omega arith)
 
 -- a signed field of so many bits
 field-size : (x low width : ℕ) → 0 < width → natAbs (byWeight (2 ^ (width - 1)) (field x low width)) ≤ 2 ^ (width - 1)

@@ -7,14 +7,13 @@ use mathlib.Core.List.{List, [], _∷_, _++_}
 use Prim.Native.Nat.{ℕ, zero, suc, _+_, _<_}
 use native.Mathlib.Nat.{not-suc-le-zero, le-of-suc-le-suc, add-zero, zero-add}
 use native.Mathlib.Omega.{arith}
-use Rattle.refusal.specs.Code.{acceptedBy}
+use Rattle.refusal.specs.Code.{acceptedBy, orElse}
 use Rattle.refusal.proofs.Apart.{accepted-none}
 use Rattle.refusal.specs.declared.Table.{Table}
 use Rattle.refusal.specs.declared.Table.the-variants.{Offset, Alpha, Kta}
 use Rattle.refusal.specs.declared.Refusal.{Refusal}
 use Rattle.refusal.specs.declared.Refusal.the-variants.{None}
 use Rattle.util.specs.Sums.{in16}
-use Rattle.walk.specs.Running.{orElse}
 use Rattle.walk.specs.Walk.{Step, term, sum, valueIn, refusalIn, firstOutside, AllInside, FirstIs, stepsFrom, pixelSteps, tableSteps, walk}
 use Rattle.walk.proofs.Order.{first-append}
 

@@ -5,8 +5,7 @@ use mathlib.Core.Bool.{Bool, true, false, cond}
 use mathlib.Core.List.{List, [], _∷_, _++_}
 use Prim.Native.Nat.{ℕ, suc, _+_, _-_, _<_, _≤_}
 use native.Mathlib.Omega.{arith}
-use Rattle.refusal.specs.Code.{acceptedBy}
-use Rattle.walk.specs.Running.{orElse}
+use Rattle.refusal.specs.Code.{acceptedBy, orElse}
 use Rattle.refusal.specs.declared.Refusal.{Refusal}
 use Rattle.refusal.specs.declared.Refusal.the-variants.{None}
 use Rattle.util.specs.Sums.{in16}

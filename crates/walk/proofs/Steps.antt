@@ -5,6 +5,7 @@ use mathlib.Core.Bool.{Bool, true, false}
 use mathlib.Core.List.{List, [], _∷_}
 use Prim.Native.Nat.{ℕ, _+_, _-_, _/_, _%_, _<_}
 use lib.IntN.{ℤ, _+ℤ_}
+use Rattle.refusal.specs.Code.{orElse}
 use Rattle.refusal.specs.declared.Table.{Table}
 use Rattle.refusal.specs.declared.Table.the-variants.{Offset, Alpha, Kta}
 use Rattle.refusal.specs.declared.Refusal.{Refusal}
@@ -13,7 +14,7 @@ use Rattle.util.specs.Words.{field, signedField}
 use Rattle.util.specs.Sums.{termOf, in16}
 use Rattle.walk.specs.Parts.{nibble, average, rowTerm, columnTerm, remainderTerm, rowSum, columnSum, wholeSum, ktaAverage, ktaSum}
 use Rattle.walk.specs.Walk.{Step, term, sum, bulkSteps, pixelSteps, stepsFrom, firstOutside}
-use Rattle.walk.specs.Running.{addedTo, heldBy, nextOf, lastOf, bulkOf, pixelOf, orElse}
+use Rattle.walk.specs.Inner.Running.{addedTo, heldBy, nextOf, lastOf, bulkOf, pixelOf}
 use Rattle.walk.proofs.Order.{steps-turn}
 use Rattle.walk.specs.declared.Running.{Running}
 use Rattle.walk.specs.declared.Running.the-variants.{At, Term, Sum}

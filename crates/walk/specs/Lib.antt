@@ -1,4 +1,3 @@
 pub mod Parts
 pub mod Walk
-pub mod Running
-pub mod Calm
+pub mod Inner

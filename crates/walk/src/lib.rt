@@ -1,4 +1,12 @@
 // The walk over an image's words that finds the first term or running sum outside 16 bits.
+use camera::AVERAGE;
+use camera::COLUMNS;
+use camera::K_TA_AVERAGES;
+use camera::OFFSET_COMPENSATION;
+use camera::PIXEL_CALIBRATION;
+use camera::ROWS;
+use camera::SENSITIVITY_SCALE;
+use camera::V_AND_TA_SCALE;
 use refusal::Refusal;
 use refusal::Table;
 use refusal::accepted;
@@ -11,12 +19,13 @@ use util::u16_from_bits;
 ghost use mathlib.Core.Path.{_≡_};
 ghost use mathlib.Core.Bool.{true};
 ghost use Prim.Native.Nat.{ℕ, _+_, _^_, _<_, _≤_};
+ghost use Rattle.refusal.specs.Code.{orElse};
 ghost use Rattle.refusal.specs.declared.Refusal.the-variants.{None};
 ghost use Rattle.util.specs.Words.{listed, field};
 ghost use Rattle.walk.specs.Parts.{nibble, ktaAverage};
 ghost use Rattle.walk.specs.Walk.{walk, tableSteps, firstOutside};
-ghost use Rattle.walk.specs.Running.{addedOf, nextOf, besideOf, lastOf, bulkOf, pixelOf, orElse};
-ghost use Rattle.walk.specs.Calm.{Reaches, CalmBulk, CalmKta};
+ghost use Rattle.walk.specs.Inner.Running.{addedOf, nextOf, besideOf, lastOf, bulkOf, pixelOf};
+ghost use Rattle.walk.specs.Inner.Calm.{Reaches, CalmBulk, CalmKta};
 
 // A pixel's running sum, or the fault that it ran into.
 pub enum Running {
@@ -86,7 +95,11 @@ pub fn k_ta_average(words: &[u16; 832], p: usize) -> i16
     ensures { λ r. ⌜ r ≡ ktaAverage (listed (now (words .entry))) p ⌝ }
 {
     let order = p / 32 % 2 + 2 * (p % 32 % 2);
-    i16_from_bits(words[0x36 + order / 2], 8 * (1 - order % 2) as u32, 8)
+    i16_from_bits(
+        words[K_TA_AVERAGES + order / 2],
+        8 * (1 - order % 2) as u32,
+        8,
+    )
 }
 
 // The average with the row's and the column's term.
@@ -95,9 +108,9 @@ fn bulk(words: &[u16; 832], base: usize, p: usize) -> Running
     ensures { λ r. ⌜ r ≡ bulkOf (listed (now (words .entry))) base p ⌝ }
 {
     let scales = words[base];
-    let start = Running::At(i16_from_bits(words[base + 1], 0, 16));
-    let row = next(start, nibble_at(words, base + 2, p / 32), scales, 8);
-    next(row, nibble_at(words, base + 8, p % 32), scales, 4)
+    let start = Running::At(i16_from_bits(words[base + AVERAGE], 0, 16));
+    let row = next(start, nibble_at(words, base + ROWS, p / 32), scales, 8);
+    next(row, nibble_at(words, base + COLUMNS, p % 32), scales, 4)
 }
 
 // All steps of pixel p of a table.
@@ -105,24 +118,24 @@ fn pixel(words: &[u16; 832], table: Table, p: usize) -> Running
     requires { ⌜ p < 768 ⌝ }
     ensures { λ r. ⌜ r ≡ pixelOf (listed (now (words .entry))) table p ⌝ }
 {
-    let own = words[0x40 + p];
+    let own = words[PIXEL_CALIBRATION + p];
     match table {
         Table::Offset => next(
-            bulk(words, 0x10, p),
+            bulk(words, OFFSET_COMPENSATION, p),
             i16_from_bits(own, 10, 6),
-            words[0x10],
+            words[OFFSET_COMPENSATION],
             0,
         ),
         Table::Alpha => last(
-            bulk(words, 0x20, p),
+            bulk(words, SENSITIVITY_SCALE, p),
             i16_from_bits(own, 4, 6),
-            words[0x20],
+            words[SENSITIVITY_SCALE],
             0,
         ),
         Table::Kta => next(
             Running::At(k_ta_average(words, p)),
             i16_from_bits(own, 1, 3),
-            words[0x38],
+            words[V_AND_TA_SCALE],
             0,
         ),
     }
@@ -200,9 +213,9 @@ fn calm_bulk(words: &[u16; 832], base: usize) -> bool
     requires { ⌜ base ≤ 32 ⌝ }
     ensures { λ r. ⌜ (r ≡ true → CalmBulk (listed (now (words .entry))) base) ⌝ }
 {
-    let average = magnitude(i16_from_bits(words[base + 1], 0, 16));
-    let rows = reach(words, base + 2, 24) * scale_power(words, base, 8);
-    let columns = reach(words, base + 8, 32) * scale_power(words, base, 4);
+    let average = magnitude(i16_from_bits(words[base + AVERAGE], 0, 16));
+    let rows = reach(words, base + ROWS, 24) * scale_power(words, base, 8);
+    let columns = reach(words, base + COLUMNS, 32) * scale_power(words, base, 4);
     average + rows + columns + 32 * scale_power(words, base, 0) < 32768
 }
 
@@ -210,15 +223,15 @@ fn calm_bulk(words: &[u16; 832], base: usize) -> bool
 fn calm_k_ta(words: &[u16; 832]) -> bool
     ensures { λ r. ⌜ (r ≡ true → CalmKta (listed (now (words .entry)))) ⌝ }
 {
-    128 + 4 * scale_power(words, 0x38, 0) < 32768
+    128 + 4 * scale_power(words, V_AND_TA_SCALE, 0) < 32768
 }
 
 // Whether a glance shows that the walk finds nothing. A lifelike image is calm; where one isn't, the walk decides.
 fn calm(words: &[u16; 832]) -> bool
     ensures { λ r. ⌜ (r ≡ true → firstOutside (walk (listed (now (words .entry)))) ≡ None) ⌝ }
 {
-    if calm_bulk(words, 0x10) {
-        if calm_bulk(words, 0x20) {
+    if calm_bulk(words, OFFSET_COMPENSATION) {
+        if calm_bulk(words, SENSITIVITY_SCALE) {
             return calm_k_ta(words);
         }
     }

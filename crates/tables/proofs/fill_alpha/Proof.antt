@@ -12,7 +12,7 @@ use Rattle.exact.specs.Dyadic.{dyadic}
 use Rattle.util.specs.Words.{listed}
 use Rattle.walk.specs.Parts.{wholeSum}
 use Rattle.tables.specs.Entries.{alphaAt}
-use Rattle.tables.specs.Rows.{rowEntry}
+use Rattle.tables.specs.Inner.Rows.{rowEntry}
 use Rattle.tables.proofs.Filled.{tab-same}
 use Rattle.tables.proofs.Inside.{Inside, alpha-inside, rows-fit, columns-fit, parts-fit, terms-fit, entries-exact, entry-at}
 use Rattle.tables.proofs.fill_alpha.Statement.{statement}

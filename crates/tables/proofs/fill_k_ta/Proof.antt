@@ -12,7 +12,7 @@ use Rattle.exact.specs.Dyadic.{dyadic}
 use Rattle.util.specs.Words.{listed}
 use Rattle.walk.specs.Parts.{ktaSum}
 use Rattle.tables.specs.Entries.{ktaAt}
-use Rattle.tables.specs.Rows.{rowEntry}
+use Rattle.tables.specs.Inner.Rows.{rowEntry}
 use Rattle.tables.proofs.Filled.{tab-same}
 use Rattle.tables.proofs.Inside.{zeros, kta-parts-fit, kta-terms-fit, kta-exact, kta-at}
 use Rattle.tables.proofs.fill_k_ta.Statement.{statement}

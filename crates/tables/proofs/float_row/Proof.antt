@@ -1,19 +1,20 @@
 -- `tables::float_row` meets its contract: each turn writes the next entry over the power of two, which is exact.
 -- Assumes nothing.
 use native.Mathlib.Omega.{arith}
-use mathlib.Core.Path.{_≡_, refl, ap, _∙_}
+use mathlib.Core.Path.{_≡_, refl, _∙_}
 use mathlib.Core.List.{_++_}
 use Prim.Native.Nat.{ℕ, _+_, _-_, _≤_, _<_}
 use lib.ListN.{length, drop, length-set}
-use lib.IntN.{ℤ, pos}
-use lib.Ieee.{Float}
+use lib.IntN.{pos}
+use lib.Ieee.{Float, binary32, div, ofInt}
 use mir.Syntax.{w32}
 use mir.Val.{toZ, ofZ}
 use Rattle.exact.specs.Dyadic.{dyadic, twoTo}
+use Rattle.exact.proofs.Exact.{of-int-over}
 use Rattle.util.specs.Words.{listed}
 use Rattle.util.proofs.Whole.{back32}
 use Rattle.tables.specs.Tab.{tab}
-use Rattle.tables.specs.Rows.{rowEntry}
+use Rattle.tables.specs.Inner.Rows.{rowEntry}
 use Rattle.tables.proofs.Filled.{tab-none, tab-more, tab-whole}
 use Rattle.tables.proofs.float_row.Statement.{statement}
 use Rattle.tables.proofs.float_row.Tie as tie
@@ -50,7 +51,11 @@ loop-again c =
       omega arith,
       λ k h e.
           let f : ℕ → Float = λ m. dyadic (rowEntry (listed (s .words .now)) (s .rows .now) (s .columns .now) (s .low) (s .width) (s .power) (s .r) m) k in
-          let stored : c .over .result ≡ f n = c .over .ensures k h e ∙ ap (λ (z : ℤ). dyadic z k) (entry-is (c .before)) in
+          let small = start .pre .5 (s .r) n (start .pre .0) (c .before .before .loop-test .taken) in
+          let stored : c .over .result ≡ f n =
+          c .over .ensures
+          ∙ ((λ i. div binary32 (ofInt binary32 (entry-is (c .before) i)) (e i))
+          ∙ of-int-over (rowEntry (listed (s .words .now)) (s .rows .now) (s .columns .now) (s .low) (s .width) (s .power) (s .r) n) k small h) in
           rw (stored, at-loop .loop .inv .1 k h e) (tab-more f n (s .out .now) l),
       simp length-set (at-loop .loop .inv .2),
     )

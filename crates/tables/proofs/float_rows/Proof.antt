@@ -10,7 +10,7 @@ use lib.Ieee.{Float}
 use Rattle.exact.specs.Dyadic.{dyadic}
 use Rattle.util.specs.Words.{listed}
 use Rattle.tables.specs.Tab.{tab}
-use Rattle.tables.specs.Rows.{rowEntry}
+use Rattle.tables.specs.Inner.Rows.{rowEntry}
 use Rattle.tables.proofs.Filled.{tab-none, put-part, row-place, length-put}
 use Rattle.tables.proofs.float_rows.Statement.{statement}
 use Rattle.tables.proofs.float_rows.Tie as tie

@@ -10,7 +10,7 @@ use mir.Facts.{toZ-ofZ}
 use mir.Syntax.{w16}
 use mir.Val.{SFits, toZ, ofZ}
 use Rattle.util.proofs.Whole.{back16, back32, fits-16}
-use Rattle.tables.specs.Rows.{columnPart}
+use Rattle.tables.specs.Inner.Rows.{columnPart}
 use Rattle.tables.proofs.row_entry.Statement.{statement}
 use Rattle.tables.proofs.row_entry.Tie as tie
 

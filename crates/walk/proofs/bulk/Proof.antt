@@ -1,7 +1,7 @@
 -- `walk::bulk` meets its contract: two terms are added to the average, one after the other.
 -- Assumes nothing.
 use Rattle.util.proofs.Whole.{back16}
-use Rattle.walk.specs.Running.{bulkOf}
+use Rattle.walk.specs.Inner.Running.{bulkOf}
 use borrow.Author.Needs.{needs}
 use Rattle.walk.proofs.bulk.Statement.{statement}
 use Rattle.walk.proofs.bulk.Tie as tie

@@ -1,7 +1,7 @@
 -- `walk::pixel` meets its contract: each table has its own steps.
 -- Assumes nothing.
 use Rattle.util.proofs.Whole.{back16}
-use Rattle.walk.specs.Running.{pixelOf}
+use Rattle.walk.specs.Inner.Running.{pixelOf}
 use borrow.Author.Needs.{needs}
 use Rattle.walk.proofs.pixel.Statement.{statement}
 use Rattle.walk.proofs.pixel.Tie as tie

@@ -5,8 +5,6 @@ use mathlib.Core.Bool.{cond}
 use lib.IntN.{ℤ, _+ℤ_}
 use Rattle.refusal.specs.declared.Table.{Table}
 use Rattle.refusal.specs.declared.Table.the-variants.{Offset, Alpha, Kta}
-use Rattle.refusal.specs.Code.{acceptedBy}
-use Rattle.refusal.specs.declared.Refusal.{Refusal}
 use Rattle.util.specs.Words.{field, signedField}
 use Rattle.util.specs.Sums.{termOf, in16}
 use Rattle.walk.specs.Parts.{nibble, average, ktaAverage}
@@ -49,7 +47,3 @@ unfoldable pub pixelOf : (ℕ → ℕ) → Table → ℕ → Running
 pixelOf w Offset p = nextOf (bulkOf w 0x10 p) (signedField (w (0x40 + p)) 10 6) (field (w 0x10) 0 4)
 pixelOf w Alpha p = lastOf (bulkOf w 0x20 p) (signedField (w (0x40 + p)) 4 6) (field (w 0x20) 0 4)
 pixelOf w Kta p = nextOf (At (ktaAverage w p)) (signedField (w (0x40 + p)) 1 3) (field (w 0x38) 0 4)
-
--- a refusal, or where there is none what comes after it
-abbrev pub orElse : Refusal → Refusal → Refusal
-orElse r rest = cond (acceptedBy r) rest r

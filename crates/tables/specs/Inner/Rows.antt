@@ -7,6 +7,7 @@ use mathlib.Core.List.{List}
 use lib.ListN.{getD}
 use lib.IntN.{ℤ, pos, natAbs, _+ℤ_, _*ℤ_}
 use Rattle.util.specs.Words.{signedField}
+use Rattle.util.specs.Inner.Widths.{clip}
 use Rattle.util.specs.Sums.{in16}
 use Rattle.walk.specs.Parts.{rowTerm, rowSum, columnTerm}
 
@@ -16,11 +17,11 @@ columnPart rows columns r c = getD rows r (pos 0) +ℤ getD columns (32 * (r % 2
 
 -- the whole sum of column c of row r; the remainder is width bits of the pixel's own word from bit low up, times power
 abbrev pub rowEntry : (ℕ → ℕ) → List ℤ → List ℤ → ℕ → ℕ → ℕ → ℕ → ℕ → ℤ
-rowEntry w rows columns low width power r c = columnPart rows columns r c +ℤ signedField (w (0x40 + (32 * r + c))) low width *ℤ pos power
+rowEntry w rows columns low width power r c = columnPart rows columns r c +ℤ signedField (w (0x40 + (32 * r + c))) low (clip width) *ℤ pos power
 
 -- what the code asks of the numbers that it is given: that the sum up to each column, and each remainder's term, fit 16 bits
 abbrev pub TermsFit : (ℕ → ℕ) → ℕ → ℕ → ℕ → Type 0
-TermsFit w low width power = (r c : ℕ) → r < 24 → c < 32 → in16 (signedField (w (0x40 + (32 * r + c))) low width *ℤ pos power) ≡ true
+TermsFit w low width power = (r c : ℕ) → r < 24 → c < 32 → in16 (signedField (w (0x40 + (32 * r + c))) low (clip width) *ℤ pos power) ≡ true
 
 abbrev pub PartsFit : List ℤ → List ℤ → Type 0
 PartsFit rows columns = (r c : ℕ) → r < 24 → c < 32 → in16 (columnPart rows columns r c) ≡ true
