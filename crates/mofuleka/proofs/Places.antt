@@ -7,7 +7,7 @@ use native.Mathlib.Nat.{lt-trans}
 use native.Mathlib.Omega.{arith}
 use lib.Dec.{ltb, lit<}
 use lib.ListN.{length}
-use Rattle.refusal.specs.Code.{codeOf, acceptedBy}
+use Rattle.refusal.specs.Code.{codeOf, acceptedBy, orElse}
 use Rattle.refusal.specs.declared.Table.{Table}
 use Rattle.refusal.specs.declared.Table.the-variants.{Offset, Alpha, Kta}
 use Rattle.refusal.specs.declared.Refusal.{Refusal}
@@ -29,7 +29,7 @@ use Rattle.record.specs.declared.CorrectionAnswer.{CorrectionAnswer}
 use Rattle.eeprom.specs.Image.{imageWords}
 use Rattle.mofuleka.specs.Decoding.{tooShort, slicesRefusal}
 use Rattle.mofuleka.specs.Questions.{shortRecord}
-use Rattle.mofuleka.specs.Answers.{firstOf, selectorRefusal, selectedOr}
+use Rattle.mofuleka.specs.Answers.{selectorRefusal, selectedOr}
 
 abbrev pub Placed : ℕ → Refusal → Type 0
 Placed n r = codeOf r .place < n
@@ -39,7 +39,7 @@ pub placed-either : {A : Type 0} (f : A → Refusal) {n : ℕ} (b : Bool) (x y :
 placed-either f true x y h k = h
 placed-either f false x y h k = k
 
-pub placed-first : {n : ℕ} (a b : Refusal) → Placed n a → Placed n b → Placed n (firstOf a b)
+pub placed-first : {n : ℕ} (a b : Refusal) → Placed n a → Placed n b → Placed n (orElse a b)
 placed-first a b h k = placed-either (λ r. r) (acceptedBy a) b a k h
 
 pub placed-selector : (k : ℕ) → Placed (2 ^ 48) (selectorRefusal k)
@@ -47,7 +47,7 @@ placed-selector k = placed-either (λ r. r) (ltb 1 k) SelectorAbove None (lit< t
 
 pub placed-selected : (pattern subpage : ℕ) (later : Refusal) → Placed (2 ^ 48) later → Placed (2 ^ 48) (selectedOr pattern subpage later)
 placed-selected pattern subpage later h =
-    placed-first (selectorRefusal pattern) (firstOf (selectorRefusal subpage) later) (placed-selector pattern)
+    placed-first (selectorRefusal pattern) (orElse (selectorRefusal subpage) later) (placed-selector pattern)
     (placed-first (selectorRefusal subpage) later (placed-selector subpage) h)
 
 -- ---- of the camera's questions

@@ -11,7 +11,7 @@ use Rattle.walk.specs.Walk.{walk, firstOutside}
 use Rattle.tables.specs.Tab.{tab}
 use Rattle.tables.specs.Entries.{offsetAt, alphaAt, ktaAt}
 use Rattle.eeprom.specs.Image.{imageWords}
-use Rattle.layout.specs.Numbers.{shorts, floats}
+use Rattle.layout.specs.Numbers.{shortsBytes, floatsBytes}
 
 -- that one of the four slices has too few bytes for its layout
 abbrev pub tooShort : ℕ → ℕ → ℕ → ℕ → Bool
@@ -26,14 +26,14 @@ slicesRefusal image offset alpha kta rec =
 
 -- the tables' bytes, over the words of the image
 unfoldable pub offsetBytes : (ℕ → ℕ) → List ℕ
-offsetBytes w = shorts (tab (offsetAt w) 768)
+offsetBytes w = shortsBytes (tab (offsetAt w) 768)
 
 unfoldable pub alphaBytes : (ℕ → ℕ) → List ℕ
-alphaBytes w = floats (tab (alphaAt w) 768)
+alphaBytes w = floatsBytes (tab (alphaAt w) 768)
 
 unfoldable pub ktaBytes : (ℕ → ℕ) → List ℕ
-ktaBytes w = floats (tab (ktaAt w) 768)
+ktaBytes w = floatsBytes (tab (ktaAt w) 768)
 
 -- what a lent slice holds afterwards: where the call was accepted the new bytes at its front and its own past them, else what it held before
 abbrev pub lentAfter : Bool → List ℕ → List ℕ → List ℕ
-lentAfter accepted bytes before = cond accepted (bytes ++ drop (length bytes) before) before
+lentAfter done bytes before = cond done (bytes ++ drop (length bytes) before) before
