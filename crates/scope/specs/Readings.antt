@@ -1,24 +1,28 @@
 -- The readings that the scope marks P, in one table: what is asked, and what the answer must be. Addresses are 0x2400 plus the word's number.
--- An answer begins with the refusal's number, table and place; the numbers asked for follow, f32s as their 32 bits.
+-- An image is its 1,664 bytes, and is decoded into three tables of 768 zeros. An answer begins with the refusal's number, table and place; the numbers asked for
+-- follow, f32s as their 32 bits.
 -- Assumes nothing.
-use Prim.Native.Nat.{ℕ, zero, _+_, _-_}
+use Prim.Native.Nat.{ℕ, _+_, _-_}
 use mathlib.Core.Bool.{cond}
 use mathlib.Core.List.{List, [], _∷_, _++_, map}
 use lib.Dec.{eqb}
 use lib.IntN.{ℤ, pos, negsuc}
 use lib.Ieee.{Float, binary32, toBits}
-use lib.ListN.{replicate}
+use lib.ListN.{replicate, take}
 use Rattle.refusal.specs.Code.{codeOf}
 use Rattle.refusal.specs.declared.Refusal.{Refusal}
-use Rattle.record.specs.Fields.{recordOf}
+use Rattle.util.specs.Bytes.{bytesOf}
+use Rattle.record.specs.Fields.{plusZero}
+use Rattle.record.specs.declared.Record.{Record}
 use Rattle.record.specs.declared.Optional.{Optional}
 use Rattle.record.specs.declared.Optional.the-variants.{Absent, Given}
-use Rattle.walk.specs.Walk.{walk, firstOutside}
 use Rattle.tables.specs.Tab.{tab}
 use Rattle.tables.specs.Entries.{offsetAt, alphaAt, ktaAt}
-use Rattle.eeprom.specs.Decoding.{refusalOf}
+use Rattle.eeprom.specs.Image.{imageWords}
+use Rattle.eeprom.specs.Decoding.{decodedOf, tableAfter}
+use Rattle.eeprom.specs.declared.Decoded.{Decoded}
 use Rattle.gathering.specs.Cells.{valueOf, markOf}
-use Rattle.gathering.specs.State.{freshState, accepted, cellAt}
+use Rattle.gathering.specs.State.{freshState, withBlock, cellAt}
 
 -- word `word` of an image set to `value`
 pub record Set : Type 0 where
@@ -41,10 +45,29 @@ pub data Question : Type 0 where
   -- a block that is handed to a fresh gathering; word 831 is asked for
   block : List ℕ → Question
 
--- the words of an image that is zero but for these
+-- the words of an image that is zero but for these, and its bytes
 unfoldable pub setWords : List Set → ℕ → ℕ
 setWords [] n = 0
 setWords (s ∷ rest) n = cond (eqb n (s .word)) (s .value) (setWords rest n)
+
+unfoldable pub imageOf : List Set → List ℕ
+imageOf s = bytesOf (tab (setWords s) 832)
+
+-- what the decoder answers to an image, and what it leaves in the three tables
+abbrev pub decoded : List ℕ → Decoded
+decoded bytes = decodedOf bytes 768 768 768
+
+pub record Left : Type 0 where
+  pub offset : List ℤ
+  pub alpha : List Float
+  pub kta : List Float
+
+abbrev pub left : Decoded → (ℕ → ℕ) → Left
+left d w = record {
+  offset = tableAfter (d .refusal) (offsetAt w) (replicate 768 (pos 0));
+  alpha = tableAfter (d .refusal) (alphaAt w) (replicate 768 plusZero);
+  kta = tableAfter (d .refusal) (ktaAt w) (replicate 768 plusZero);
+}
 
 abbrev pub coded : Refusal → List ℤ
 coded r = pos (codeOf r .number) ∷ pos (codeOf r .table) ∷ pos (codeOf r .place) ∷ []
@@ -56,22 +79,26 @@ abbrev pub optional : Optional → List ℤ
 optional Absent = []
 optional (Given x) = bits x ∷ []
 
-unfoldable pub asked : (ℕ → ℕ) → Asked → List ℤ
-asked w refusal = []
-asked w supply = recordOf w .«k_v_dd» ∷ recordOf w .«v_dd_25» ∷ []
-asked w offset-row-0 = tab (offsetAt w) 32
-asked w offset-0 = offsetAt w 0 ∷ []
-asked w alpha-0 = bits (alphaAt w 0) ∷ []
-asked w kta-0 = bits (ktaAt w 0) ∷ []
-asked w gradient = optional (recordOf w .«temperature_gradient_coefficient»)
-asked w interleave = map bits (recordOf w .«interleave_correction_pixels») ++ (bits (recordOf w .«interleave_correction_cp») ∷ [])
-asked w corners = recordOf w .«corner_temperatures»
+unfoldable pub asked : Record → Left → Asked → List ℤ
+asked r t refusal = []
+asked r t supply = r .«k_v_dd» ∷ r .«v_dd_25» ∷ []
+asked r t offset-row-0 = take 32 (t .offset)
+asked r t offset-0 = take 1 (t .offset)
+asked r t alpha-0 = map bits (take 1 (t .alpha))
+asked r t kta-0 = map bits (take 1 (t .kta))
+asked r t gradient = optional (r .«temperature_gradient_coefficient»)
+asked r t interleave = map bits (r .«interleave_correction_pixels») ++ (bits (r .«interleave_correction_cp») ∷ [])
+asked r t corners = r .«corner_temperatures»
+
+-- the whole answer of a decoded image with the words w
+abbrev pub told : Decoded → (ℕ → ℕ) → Asked → List ℤ
+told d w a = coded (d .refusal) ++ asked (d .«record») (left d w) a
 
 unfoldable pub answer : Question → List ℤ
-answer (zeros n) = coded (refusalOf (replicate n 0) 768 768 768)
-answer (image s a) = coded (firstOutside (walk (setWords s))) ++ asked (setWords s) a
+answer (zeros n) = told (decoded (replicate n 0)) (imageWords (replicate n 0)) refusal
+answer (image s a) = told (decoded (imageOf s)) (imageWords (imageOf s)) a
 answer (block b) =
-    let after = accepted freshState b in
+    let after = withBlock freshState b in
     coded (after .refusal) ++ (pos (markOf (cellAt (after .gathering) 831)) ∷ pos (valueOf (cellAt (after .gathering) 831)) ∷ [])
 
 -- a refusal's three numbers; none is 0 0 0
