@@ -4,7 +4,7 @@ source_folder=${MLX9064X_SRC:-$root/../shared/docs/src}
 # The folder of the crate, or its src folder itself.
 [ -d "$source_folder/src/mlx90640" ] && source_folder=$source_folder/src
 if [ ! -f "$source_folder/mlx90640/eeprom.rs" ]; then
-  say "the original crate's source is not at $source_folder: set MLX9064X_SRC"
+  say "nothing is compared: the original crate's source is not at $source_folder; set MLX9064X_SRC"
   exit 2
 fi
 

@@ -7,7 +7,7 @@ use std::process::{Command, Stdio};
 use compare::images::{self, Numbers};
 use compare::judge::{Judge, Release};
 use compare::model;
-use compare::tally::Tally;
+use compare::tally::{Held, Tally};
 
 fn listing(image: &[u8]) -> String {
     if let Err(refused) = model::verdict(image) {
@@ -61,15 +61,8 @@ fn answer(program: &PathBuf, image: &[u8]) -> Result<String, String> {
     String::from_utf8(output.stdout).map_err(|error| error.to_string())
 }
 
-pub fn run(tally: &mut Tally, seed: u64) {
-    let program = match env::var_os("CALDUMP").map(PathBuf::from) {
-        Some(program) if program.exists() => program,
-        _ => {
-            println!("caldump is not there: not compared");
-            return;
-        }
-    };
-    tally.kind("through caldump");
+/// Images of every kind: accepted ones, refused ones, one that is too long.
+fn sample(seed: u64) -> Vec<Vec<u8>> {
     let mut numbers = Numbers::new(seed ^ 0xCA1D);
     let mut sample: Vec<Vec<u8>> = vec![
         vec![0; 1664],
@@ -92,18 +85,34 @@ pub fn run(tally: &mut Tally, seed: u64) {
         sample.push(images::sparse(&mut numbers).to_vec());
         sample.push(images::damaged(&mut numbers));
     }
-    for (i, image) in sample.iter().enumerate() {
-        tally.current().images += 1;
-        let expected = listing(image);
-        if !expected.starts_with("refused") {
-            tally.current().accepted += 1;
+    sample
+}
+
+pub fn run(tally: &mut Tally, seed: u64) {
+    let program = match env::var_os("CALDUMP").map(PathBuf::from) {
+        Some(program) if program.exists() => program,
+        _ => {
+            tally.left_out("the listing through caldump (the program is not there)");
+            return;
         }
+    };
+    tally.part("through caldump");
+    for (i, image) in sample(seed).iter().enumerate() {
+        tally.image(image);
+        let expected = listing(image);
+        let held = match expected.starts_with("refused") {
+            true => Held::Walk,
+            false => {
+                tally.accepted();
+                Held::Crate
+            }
+        };
         match answer(&program, image) {
             Ok(ours) if ours == expected => {
                 let numbers = expected.split_whitespace().count() - expected.lines().count();
-                tally.equal(numbers as u64);
+                tally.equal(held, numbers as u64);
             }
-            ours => tally.different(|| format!("image {}: {:?}, must be {:?}", i, ours, expected)),
+            ours => tally.different(held, || format!("image {}: {:?}, must be {:?}", i, ours, expected)),
         }
     }
 }

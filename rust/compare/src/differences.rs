@@ -6,10 +6,12 @@ use std::fs;
 
 use compare::images;
 use compare::judge::{outcome, Checked, Judge, Outcome, Release};
-use compare::tally::Tally;
+use compare::tally::{Held, Tally};
 use mofuleka::{AccessPattern, Calibration, Mlx90640, Refusal, Subpage};
 
 struct Row {
+    /// The image that was decoded, where the row has one.
+    bytes: Option<Vec<u8>>,
     image: String,
     asked: String,
     release: String,
@@ -29,7 +31,7 @@ impl Row {
 
 pub const HEAD: &str = "| image | asked | the crate, release | the crate, overflow checks | the datasheet | ours |";
 
-/// A number that a table cell shows: a short decimal, or the whole fraction over a power of two.
+/// A number that a table cell shows: a short decimal, or the whole fraction over a power of two. Negative zero is "-0".
 fn number(number: f64) -> String {
     let short = format!("{}", number);
     if short.len() <= 9 {
@@ -95,6 +97,7 @@ fn field(
 ) -> Row {
     let image = images::with(set);
     Row {
+        bytes: Some(image.to_vec()),
         image: words(set),
         asked: asked.to_string(),
         release: said(Release::decode(&image), |answer| judge(&answer)),
@@ -137,7 +140,9 @@ impl<J: Judge> Fields for J {
     fn k_v(&self, pixel: usize) -> String {
         let mut all = Vec::new();
         Judge::k_v(self, &mut all);
-        all.get(pixel).map(|bits| number(f32::from_bits(*bits).into())).unwrap_or_else(|| "the iterator ends".to_string())
+        all.get(pixel)
+            .map(|bits| number(f32::from_bits(*bits).into()))
+            .unwrap_or_else(|| "the iterator ends".to_string())
     }
 
     fn correction(&self, pixel: usize) -> String {
@@ -206,12 +211,14 @@ fn length(len: usize) -> Row {
         checked: said(Checked::decode(&image), |_| "accepted".to_string()),
         datasheet: "832 words".to_string(),
         ours: ours(Calibration::from_data(&image), |_| "accepted".to_string()),
+        bytes: Some(image),
     }
 }
 
 fn resolution(calibrated: u8, current: u8, datasheet: &str) -> Row {
     let show = |bits| number(f32::from_bits(bits).into());
     Row {
+        bytes: None,
         image: "any".to_string(),
         asked: format!("resolution correction {}, {}", calibrated, current),
         release: said(Release::resolution_correction(calibrated, current), show),
@@ -221,52 +228,91 @@ fn resolution(calibrated: u8, current: u8, datasheet: &str) -> Row {
     }
 }
 
-/// The datasheet's correction of a pixel counted from 0, and the one that the comment's short form of IL_Pattern gives.
-fn corrections(pixel: i64, c2: f64, c3: f64) -> (f64, f64) {
-    let value = |il: i64, conversion: i64| c3 * (2 * il - 1) as f64 - c2 * conversion as f64;
+/// The datasheet's correction of a pixel counted from 0, from the word at 0x2435, and the one that the comment's short form of
+/// IL_Pattern gives. Worked out in whole eighths: the formula is about numbers, of which one is zero.
+fn corrections(pixel: i64, word: u16) -> (f64, f64) {
+    let sign_5 = |low: u32| i64::from(word >> low & 0x1F) - if word >> (low + 4) & 1 == 1 { 32 } else { 0 };
+    let (c2, c3) = (4 * sign_5(6), sign_5(11));
+    let value = |il: i64, conversion: i64| (c3 * (2 * il - 1) - c2 * conversion) as f64 / 8.0;
     let row = pixel / 32 % 2;
     let conversion = ((pixel + 2) / 4 - (pixel + 3) / 4 + (pixel + 1) / 4 - pixel / 4) * (1 - 2 * row);
     let short = (pixel % 2) * (pixel % 4 - 2) * (1 - row * 2);
     (value(row, conversion), value(pixel % 2, short))
 }
 
-fn correction(pixel: usize) -> Row {
-    let (datasheet, comment) = corrections(pixel as i64, 0.5, 0.125);
+/// A pixel's correction, where the word at 0x2435 is this one.
+fn correction(word: u16, pixel: usize, asked: &str) -> Row {
+    let set = [(0x2435, word)];
     field(
-        &[(0x2435, 0x0841)],
-        &format!("correction of pixel {}; by the comment's short form {}", pixel, number(comment)),
+        if word == 0 { &[] } else { &set },
+        asked,
         |judge| judge.correction(pixel),
-        number(datasheet),
+        number(corrections(pixel as i64, word).0),
         |c| absent(c.access_pattern_compensation_pixel(pixel, AccessPattern::Interleave).unwrap()),
     )
 }
 
-/// A list's end, which is a question past the end here.
-fn past_the_end() -> Vec<Row> {
+/// Where A is zero, where B is (A = D) and where C is (A = -D): the negated one of the six is -0.
+fn signed_zeros() -> Vec<Row> {
+    [
+        (0x0000, 0, "-A"),
+        (0x0000, 1, "B"),
+        (0x0000, 3, "-C"),
+        (0x0000, 32, "A"),
+        (0x0000, 33, "-B"),
+        (0x0000, 35, "C"),
+        (0x0040, 0, "-A"),
+        (0x0040, 1, "B"),
+        (0x0040, 32, "A"),
+        (0x2040, 1, "B"),
+        (0x2040, 33, "-B"),
+        (0xE040, 3, "-C"),
+        (0xE040, 35, "C"),
+    ]
+    .iter()
+    .map(|(word, pixel, place)| correction(*word, *pixel, &format!("correction of pixel {}, {}", pixel, place)))
+    .collect()
+}
+
+fn comments_form(pixel: usize) -> Row {
+    let (_, comment) = corrections(pixel as i64, 0x0841);
+    let asked = format!("correction of pixel {}; by the comment's short form {}", pixel, number(comment));
+    correction(0x0841, pixel, &asked)
+}
+
+/// Masks and ranges past their end, in one pattern and subpage.
+fn past_lists(name: &str, pattern: u32, access: AccessPattern, subpage: Subpage) -> [Row; 2] {
     let end = |answer: Option<String>| answer.unwrap_or_else(|| "the iterator ends".to_string());
-    let mut rows = Vec::new();
-    for (name, pattern, subpage) in [("Chess", 1, Subpage::Zero), ("Interleave", 0, Subpage::One)] {
-        let access = if pattern == 1 { AccessPattern::Chess } else { AccessPattern::Interleave };
-        let count = Release::ranges(pattern, 0).len();
-        let mask = |list: Vec<bool>| end(list.get(768).map(|x| x.to_string()));
-        let range = |list: Vec<String>| end(list.get(count).cloned());
-        rows.push(Row {
+    let count = Release::ranges(pattern, 0).len();
+    let mask = |list: Vec<bool>| end(list.get(768).map(|x| x.to_string()));
+    let range = |list: Vec<String>| end(list.get(count).cloned());
+    [
+        Row {
+            bytes: None,
             image: "any".to_string(),
             asked: format!("whether pixel 768 is in the subpage, {}", name),
             release: said(outcome(|| Ok(Release::mask(pattern, subpage as u32))), mask),
             checked: said(outcome(|| Ok(Checked::mask(pattern, subpage as u32))), mask),
             datasheet: "768 pixels".to_string(),
             ours: ours(Mlx90640::pixel_in_subpage(subpage, access, 768), |x| x.to_string()),
-        });
-        rows.push(Row {
+        },
+        Row {
+            bytes: None,
             image: "any".to_string(),
             asked: format!("range {}, {}", count, name),
             release: said(outcome(|| Ok(Release::ranges(pattern, subpage as u32))), range),
             checked: said(outcome(|| Ok(Checked::ranges(pattern, subpage as u32))), range),
             datasheet: "not a matter of it".to_string(),
             ours: ours(Mlx90640::pixel_range(subpage, access, count), |x| format!("{:?}", x)),
-        });
-    }
+        },
+    ]
+}
+
+/// A list's end, which is a question past the end here.
+fn past_the_end() -> Vec<Row> {
+    let mut rows = Vec::new();
+    rows.extend(past_lists("Chess", 1, AccessPattern::Chess, Subpage::Zero));
+    rows.extend(past_lists("Interleave", 0, AccessPattern::Interleave, Subpage::One));
     rows.push(field(
         &[(0x2434, 0x1234)],
         "Kv of pixel 768",
@@ -284,155 +330,146 @@ fn past_the_end() -> Vec<Row> {
     rows
 }
 
-fn entries() -> Vec<(&'static str, Vec<Row>)> {
-    let alpha_words = [(0x243D, 0x9797), (0x243E, 0x9797), (0x243F, 0x2889)];
+fn terms() -> Vec<Row> {
+    vec![
+        offset(&[(0x2410, 0x0F00), (0x2412, 0x0001)], 0, 32768),
+        offset(&[(0x2410, 0x0F00), (0x2412, 0x0002)], 0, 65536),
+        offset(&[(0x2410, 0x00F0), (0x2418, 0x0001)], 0, 32768),
+        offset(&[(0x2410, 0x000B), (0x2440, 0x4000)], 0, 32768),
+        alpha(&[(0x2420, 0x0F00), (0x2422, 0x0001)], 0, 32768, 30),
+        alpha(&[(0x2420, 0x000B), (0x2440, 0x0100)], 0, 32768, 30),
+        k_ta(&[(0x2438, 0x000F), (0x2440, 0x0002)], 0, 32768, 8),
+    ]
+}
+
+fn sums() -> Vec<Row> {
+    vec![
+        offset(&[(0x2411, 0x7FFF), (0x2413, 0x0010)], 160, 32768),
+        offset(&[(0x2411, 0x7FFF), (0x2412, 0x0001), (0x2418, 0x000F)], 0, 32767),
+        offset(&[(0x2411, 0x8000), (0x2440, 0xFC00)], 0, -32769),
+        alpha(&[(0x2421, 0x7FFF), (0x2422, 0x0001)], 0, 32768, 30),
+        k_ta(&[(0x2436, 0xFF00), (0x2438, 0x000D), (0x2440, 0x0008)], 0, -32769, 8),
+    ]
+}
+
+fn alpha_ptat(word: u16, datasheet: f64) -> Row {
+    field(
+        &[(0x2410, word)],
+        "alpha_ptat",
+        |judge| judge.alpha_ptat(),
+        number(datasheet),
+        |c| number(c.alpha_ptat().into()),
+    )
+}
+
+fn alpha_cp() -> Row {
+    field(
+        &[(0x2439, 0x0200)],
+        "alpha_cp of subpage Zero",
+        |judge| judge.alpha_cp(),
+        format!("{} (unsure: with a sign step {})", number(2f64.powi(-18)), number(-(2f64.powi(-18)))),
+        |c| number(c.alpha_cp(Subpage::Zero).into()),
+    )
+}
+
+fn gradient(set: &[(usize, u16)], datasheet: f64) -> Row {
+    field(
+        set,
+        "temperature_gradient_coefficient",
+        |judge| judge.gradient(),
+        number(datasheet),
+        |c| absent(c.temperature_gradient_coefficient()),
+    )
+}
+
+fn k_v(pixel: usize, datasheet: f64) -> Row {
+    field(
+        &[(0x2434, 0x1234)],
+        &format!("Kv of pixel {}", pixel),
+        |judge| judge.k_v(pixel),
+        number(datasheet),
+        |c| ours(c.k_v_pixel(pixel), |x| number(x.into())),
+    )
+}
+
+fn alpha_correction() -> Row {
     // 1 / (1 + KsTo1 * 40); 1; 1 + KsTo2 * CT3; that times (1 + KsTo3 * (CT4 - CT3)), with KsTo -105 / 2^17, CT 160 and 320.
     let k_s_to = -105.0f32 / 131072.0;
     let third = 1.0 + k_s_to * 160.0;
     let factors = [1.0 / (1.0 + k_s_to * 40.0), 1.0, third, third * (1.0 + k_s_to * 160.0)];
+    field(
+        &[(0x243D, 0x9797), (0x243E, 0x9797), (0x243F, 0x2889)],
+        "alpha_correction",
+        |judge| judge.alpha_correction(),
+        factors.iter().map(|x| x.to_string()).collect::<Vec<_>>().join(", "),
+        |_| "not asked".to_string(),
+    )
+}
+
+/// The sections of the file that have a table, and their rows.
+fn entries() -> Vec<(&'static str, Vec<Row>)> {
+    let lengths = [0, 1, 830, 831, 832, 1663, 1664, 1665];
+    let alpha_ptats = [(0x1000, 8.25), (0x5000, 9.25), (0xF000, 11.75), (0x4000, 9.0)];
+    let resolutions = [(15, 0), (16, 0), (0, 16), (128, 0), (128, 1)];
+    let corrected = [0, 1, 2, 3, 32, 33];
+    let k_vs = [(0, 1.0), (1, 3.0), (32, 2.0), (33, 4.0)];
     vec![
-        (
-            "1. Short images, and the test for 831 bytes",
-            [0, 1, 830, 831, 832, 1663, 1664, 1665].iter().map(|len| length(*len)).collect(),
-        ),
-        (
-            "2. Terms outside 16 bits",
-            vec![
-                offset(&[(0x2410, 0x0F00), (0x2412, 0x0001)], 0, 32768),
-                offset(&[(0x2410, 0x0F00), (0x2412, 0x0002)], 0, 65536),
-                offset(&[(0x2410, 0x00F0), (0x2418, 0x0001)], 0, 32768),
-                offset(&[(0x2410, 0x000B), (0x2440, 0x4000)], 0, 32768),
-                alpha(&[(0x2420, 0x0F00), (0x2422, 0x0001)], 0, 32768, 30),
-                alpha(&[(0x2420, 0x000B), (0x2440, 0x0100)], 0, 32768, 30),
-                k_ta(&[(0x2438, 0x000F), (0x2440, 0x0002)], 0, 32768, 8),
-            ],
-        ),
-        (
-            "3. Sums outside 16 bits",
-            vec![
-                offset(&[(0x2411, 0x7FFF), (0x2413, 0x0010)], 160, 32768),
-                offset(&[(0x2411, 0x7FFF), (0x2412, 0x0001), (0x2418, 0x000F)], 0, 32767),
-                offset(&[(0x2411, 0x8000), (0x2440, 0xFC00)], 0, -32769),
-                alpha(&[(0x2421, 0x7FFF), (0x2422, 0x0001)], 0, 32768, 30),
-                k_ta(&[(0x2436, 0xFF00), (0x2438, 0x000D), (0x2440, 0x0008)], 0, -32769, 8),
-            ],
-        ),
-        (
-            "4. Alpha_PTAT in whole steps",
-            [(0x1000, 8.25), (0x5000, 9.25), (0xF000, 11.75), (0x4000, 9.0)]
-                .iter()
-                .map(|(word, datasheet)| {
-                    field(
-                        &[(0x2410, *word)],
-                        "alpha_ptat",
-                        |judge| judge.alpha_ptat(),
-                        number(*datasheet),
-                        |c| number(c.alpha_ptat().into()),
-                    )
-                })
-                .collect(),
-        ),
+        ("1. Short images, and the test for 831 bytes", lengths.iter().map(|len| length(*len)).collect()),
+        ("2. Terms outside 16 bits", terms()),
+        ("3. Sums outside 16 bits", sums()),
+        ("4. Alpha_PTAT in whole steps", alpha_ptats.iter().map(|(word, must)| alpha_ptat(*word, *must)).collect()),
         (
             "5. The sign of the alpha average",
             vec![alpha(&[(0x2421, 0x8000)], 0, 32768, 30), alpha(&[(0x2421, 0xFFFF)], 0, 65535, 30)],
         ),
+        ("6. The sign of alpha_CP_0", vec![alpha_cp()]),
+        ("7. The gradient at zero", vec![gradient(&[], 0.0), gradient(&[(0x243C, 0x00FF)], -1.0 / 32.0)]),
+        ("8. Zeros with a sign among the interleave six", signed_zeros()),
         (
-            "6. The sign of alpha_CP_0",
-            vec![field(
-                &[(0x2439, 0x0200)],
-                "alpha_cp of subpage Zero",
-                |judge| judge.alpha_cp(),
-                format!("{} (unsure: with a sign step {})", number(2f64.powi(-18)), number(-(2f64.powi(-18)))),
-                |c| number(c.alpha_cp(Subpage::Zero).into()),
-            )],
-        ),
-        (
-            "7. The gradient at zero",
-            vec![
-                field(
-                    &[],
-                    "temperature_gradient_coefficient",
-                    |judge| judge.gradient(),
-                    "0".to_string(),
-                    |c| absent(c.temperature_gradient_coefficient()),
-                ),
-                field(
-                    &[(0x243C, 0x00FF)],
-                    "temperature_gradient_coefficient",
-                    |judge| judge.gradient(),
-                    number(-1.0 / 32.0),
-                    |c| absent(c.temperature_gradient_coefficient()),
-                ),
-            ],
-        ),
-        (
-            "8. Resolutions above 15",
-            vec![
-                resolution(15, 0, "fields of 2 bits"),
-                resolution(16, 0, "fields of 2 bits"),
-                resolution(0, 16, "fields of 2 bits"),
-                resolution(128, 0, "fields of 2 bits"),
-                resolution(128, 1, "fields of 2 bits"),
-            ],
-        ),
-        ("9. Pixels and ranges past the end", past_the_end()),
-        ("10. The comment on IL_Pattern", [0, 1, 2, 3, 32, 33].iter().map(|pixel| correction(*pixel)).collect()),
-        (
-            "11. Iterators become questions",
-            [0, 1, 32, 33]
+            "9. Resolutions above 15",
+            resolutions
                 .iter()
-                .map(|pixel| {
-                    let (row, column) = (pixel / 32, pixel % 32);
-                    field(
-                        &[(0x2434, 0x1234)],
-                        &format!("Kv of pixel {}", pixel),
-                        |judge| judge.k_v(*pixel),
-                        number([[1.0, 3.0], [2.0, 4.0]][row][column]),
-                        |c| ours(c.k_v_pixel(*pixel), |x| number(x.into())),
-                    )
-                })
+                .map(|(calibrated, current)| resolution(*calibrated, *current, "fields of 2 bits"))
                 .collect(),
         ),
-        (
-            "12. alpha_correction is left out",
-            vec![field(
-                &alpha_words,
-                "alpha_correction",
-                |judge| judge.alpha_correction(),
-                factors.iter().map(|x| x.to_string()).collect::<Vec<_>>().join(", "),
-                |_| "not asked".to_string(),
-            )],
-        ),
+        ("10. Pixels and ranges past the end", past_the_end()),
+        ("11. The comment on IL_Pattern", corrected.iter().map(|pixel| comments_form(*pixel)).collect()),
+        ("12. Iterators become questions", k_vs.iter().map(|(pixel, must)| k_v(*pixel, *must)).collect()),
+        ("13. alpha_correction is left out", vec![alpha_correction()]),
     ]
 }
 
+/// Holds the file to the rows as they come out today; prints them, if asked to, in the file's form.
 pub fn run(tally: &mut Tally, print: bool) {
-    tally.kind("entries of docs/DIFFERENCES.md");
     let path = match env::var_os("DIFFERENCES") {
         Some(path) => path,
         None => {
-            println!("DIFFERENCES is not set: docs/DIFFERENCES.md is not compared");
+            tally.left_out("the rows of docs/DIFFERENCES.md (DIFFERENCES is not set)");
             return;
         }
     };
+    tally.part("rows of docs/DIFFERENCES.md");
     let text = fs::read_to_string(&path).unwrap_or_default();
-    let mut written: BTreeSet<&str> = text.lines().filter(|line| line.starts_with("| ") && *line != HEAD).collect();
+    // What follows has a table of counts, which are no rows.
+    let listed = text.split("\n## What was compared\n").next().unwrap_or_default();
+    let mut written: BTreeSet<&str> = listed.lines().filter(|line| line.starts_with("| ") && *line != HEAD).collect();
     for (title, rows) in entries() {
         if print {
             println!("## {}\n\n{}\n|---|---|---|---|---|---|", title, HEAD);
         }
-        tally.same(|| format!("a section '{}'", title), text.contains(&format!("## {}\n", title)), true);
+        let there = listed.contains(&format!("## {}\n", title));
+        tally.same(Held::Files, || format!("a section '{}'", title), there, true);
         for row in rows {
             let line = row.text();
             if print {
                 println!("{}", line);
             }
-            tally.current().images += 1;
-            if text.lines().any(|other| other == line) {
-                tally.equal(1);
-            } else {
-                tally.different(|| format!("not in the list: {}", line));
+            if let Some(image) = &row.bytes {
+                tally.image(image);
+                Calibration::from_data(image).iter().for_each(|_| tally.accepted());
             }
+            let there = listed.lines().any(|other| other == line);
+            tally.same(Held::Files, || format!("in the list: {}", line), there, true);
             written.remove(line.as_str());
         }
         if print {
@@ -440,6 +477,6 @@ pub fn run(tally: &mut Tally, print: bool) {
         }
     }
     for line in written {
-        tally.different(|| format!("listed but not so: {}", line));
+        tally.different(Held::Files, || format!("listed but not so: {}", line));
     }
 }

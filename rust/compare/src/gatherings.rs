@@ -1,13 +1,13 @@
 //! Gatherings against a model of sets: for each word, the set of values that accepted blocks have carried.
 use std::collections::BTreeSet;
 
-use mofuleka::lent;
+use mofuleka::{lent, Refusal};
 
 use crate::guarded::{refused_of, Bench, Depth, Guarded, FULL};
 use crate::images::{self, Numbers};
 use crate::judge::{Judge, Release};
 use crate::model::{self, refused, Refused};
-use crate::tally::Tally;
+use crate::tally::{Held, Tally};
 
 /// A history: what each word was carried with.
 #[derive(Clone)]
@@ -86,8 +86,8 @@ impl Lent {
     fn fresh(tally: &mut Tally, long: usize) -> Self {
         let mut lent = Self { guarded: Guarded::new(), long };
         let answer = lent::gathering_fresh(lent.guarded.reset(2496 + long, 0x5A));
-        tally.same(|| "fresh".to_string(), answer.map_err(refused_of), Ok(()));
-        lent.check(tally, &History::new().bytes());
+        tally.same(Held::Sets, || "fresh".to_string(), answer.map_err(refused_of), Ok(()));
+        lent.check(tally, &History::new());
         lent
     }
 
@@ -108,40 +108,35 @@ impl Lent {
         call(slice)
     }
 
-    fn check(&self, tally: &mut Tally, expected: &[u8]) {
-        tally.same(|| "bytes around a gathering".to_string(), self.guarded.kept_after(2496), true);
-        if &self.bytes()[..2496] == expected {
-            tally.equal(2 * 832);
-        } else {
-            let at = (0..2496).find(|at| self.bytes()[*at] != expected[*at]).unwrap_or(0);
-            tally.different(|| {
-                format!("gathering byte {} is {:02X}, must be {:02X}", at, self.bytes()[at], expected[at])
-            });
-        }
+    /// The state is the history's: 832 values and 832 marks.
+    fn check(&self, tally: &mut Tally, history: &History) {
+        self.guarded.stayed(tally, 2496, || "a gathering".to_string());
+        let expected = history.bytes();
+        let at = (0..2496).find(|at| self.bytes()[*at] != expected[*at]);
+        tally.count(Held::Sets, 2 * 832, u64::from(at.is_some()), || {
+            let at = at.unwrap_or(0);
+            format!("gathering byte {} is {:02X}, must be {:02X}", at, self.bytes()[at], expected[at])
+        });
+    }
+
+    /// A refused call leaves every byte, also of a state that no history gives.
+    fn check_left(&self, tally: &mut Tally, before: &[u8]) {
+        self.guarded.stayed(tally, 2496, || "a gathering".to_string());
+        let touched = self.bytes().iter().zip(before).filter(|(now, before)| now != before).count();
+        tally.count(Held::Bytes, 2496, touched as u64, || "a refused block was written".to_string());
     }
 
     fn check_status(&self, tally: &mut Tally, history: &History) {
-        tally.same(
-            || "status".to_string(),
-            lent::gathering_status(self.bytes()).map_err(refused_of),
-            Ok((history.count(0), history.count(2))),
-        );
+        let ours = lent::gathering_status(self.bytes()).map_err(refused_of);
+        tally.same(Held::Sets, || "status".to_string(), ours, Ok((history.count(0), history.count(2))));
     }
 
     fn check_words(&self, tally: &mut Tally, history: &History) {
-        for word in 0..832 {
-            tally.same(
-                || format!("word {}", word),
-                lent::gathering_word(self.bytes(), word).map_err(refused_of),
-                Ok(history.word(word)),
-            );
-        }
+        let ask = |word| lent::gathering_word(self.bytes(), word).map_err(refused_of);
+        let expected = (0..832).map(|word| Ok(history.word(word)));
+        tally.list(Held::Sets, |word| format!("word {}", word), (0..832).map(ask), expected);
         for word in [832, 833, 65536, usize::MAX] {
-            tally.same(
-                || format!("word {}", word),
-                lent::gathering_word(self.bytes(), word).map_err(refused_of),
-                Err(refused(11)),
-            );
+            tally.same(Held::Rules, || format!("word {}", word), ask(word), Err(refused(11)));
         }
     }
 }
@@ -192,6 +187,14 @@ fn some_block(numbers: &mut Numbers, image: &[u8]) -> Vec<u8> {
     block
 }
 
+/// A state that no history gives: any values beside any marks, half of these from 0 to 3.
+fn any_state(numbers: &mut Numbers) -> [u8; 2496] {
+    let mut bytes = [0u8; 2496];
+    bytes.iter_mut().for_each(|byte| *byte = numbers.word() as u8);
+    bytes[1664..].iter_mut().filter(|mark| **mark & 0x80 == 0).for_each(|mark| *mark &= 3);
+    bytes
+}
+
 /// One storm: two gatherings take blocks of one image and are merged; then the image is decoded.
 pub fn storm(tally: &mut Tally, bench: &mut Bench, seed: u64) {
     let mut numbers = Numbers::new(seed);
@@ -201,19 +204,12 @@ pub fn storm(tally: &mut Tally, bench: &mut Bench, seed: u64) {
         1 => images::near(&mut numbers),
         _ => images::lifelike(numbers.next()),
     };
-    tally.current().images += 1;
     let long = numbers.below(3) as usize;
     let mut gatherings = [Lent::fresh(tally, 0), Lent::fresh(tally, long)];
     let mut histories = [History::new(), History::new()];
     // Now and then a state that no history gives stands at the start.
     if numbers.below(8) == 0 {
-        let mut bytes = [0u8; 2496];
-        bytes.iter_mut().for_each(|byte| *byte = numbers.word() as u8);
-        bytes[1664..].iter_mut().for_each(|mark| {
-            if *mark & 0x80 == 0 {
-                *mark &= 3;
-            }
-        });
+        let bytes = any_state(&mut numbers);
         gatherings[0] = Lent::of(&bytes, 0);
         histories[0] = History::read(&bytes);
         gatherings[0].check_status(tally, &histories[0]);
@@ -222,117 +218,142 @@ pub fn storm(tally: &mut Tally, bench: &mut Bench, seed: u64) {
     for step in 0..numbers.below(60) {
         let which = numbers.below(2) as usize;
         let block = some_block(&mut numbers, &image);
-        let before = gatherings[which].bytes()[..2496].to_vec();
-        let ours = gatherings[which].with(|bytes| lent::gathering_accept(bytes, &block)).map_err(refused_of);
-        let expected = histories[which].take(&block);
-        tally.same(|| format!("{}: block {}", name(), step), ours, expected);
-        match expected {
-            Ok(()) => gatherings[which].check(tally, &histories[which].bytes()),
-            // A refused block leaves every byte, also of a state that no history gives.
-            Err(_) => gatherings[which].check(tally, &before),
-        }
-        gatherings[which].check_status(tally, &histories[which]);
+        take(tally, &mut gatherings[which], &mut histories[which], &block, &|| format!("{}: block {}", name(), step));
     }
-    // Merging both ways gives the same state.
+    let both = merge(tally, &mut gatherings, &histories, &name);
+    decode(tally, bench, &gatherings[0], &both, &name);
+    // Now fill what is missing, and decode a full one that never saw a conflict.
+    if numbers.below(2) == 0 {
+        let (full, history) = fill(tally, &mut numbers, &image, &name);
+        decode(tally, bench, &full, &history, &name);
+    }
+}
+
+/// A gathering and the history beside it take a block.
+fn take(tally: &mut Tally, lent: &mut Lent, history: &mut History, block: &[u8], name: &dyn Fn() -> String) {
+    let before = lent.bytes()[..2496].to_vec();
+    let ours = lent.with(|bytes| lent::gathering_accept(bytes, block)).map_err(refused_of);
+    let expected = history.take(block);
+    tally.same(Held::Sets, name, ours, expected);
+    match expected {
+        Ok(()) => lent.check(tally, history),
+        Err(_) => lent.check_left(tally, &before),
+    }
+    lent.check_status(tally, history);
+}
+
+/// Merges two gatherings both ways, which gives the same state; gives their history together.
+fn merge(
+    tally: &mut Tally,
+    gatherings: &mut [Lent; 2],
+    histories: &[History; 2],
+    name: &dyn Fn() -> String,
+) -> History {
     let (first, second) = (gatherings[0].bytes().to_vec(), gatherings[1].bytes().to_vec());
     let mut both = histories[0].clone();
     both.join(&histories[1]);
     for (into, from) in [(0, &second), (1, &first)] {
         let ours = gatherings[into].with(|bytes| lent::gathering_merge(bytes, from)).map_err(refused_of);
-        tally.same(name, ours, Ok(()));
-        gatherings[into].check(tally, &both.bytes());
+        tally.same(Held::Sets, name, ours, Ok(()));
+        gatherings[into].check(tally, &both);
     }
     gatherings[0].check_status(tally, &both);
     gatherings[0].check_words(tally, &both);
-    decode(tally, bench, &gatherings[0], &both, &name);
-    // Now fill what is missing, and decode a full one that never saw a conflict.
-    if numbers.below(2) == 0 {
-        let mut full = Lent::fresh(tally, 0);
-        let mut history = History::new();
-        let mut firsts: Vec<usize> = (0..13).map(|block| 64 * block).collect();
-        for i in (1..firsts.len()).rev() {
-            firsts.swap(i, numbers.below(i as u64 + 1) as usize);
-        }
-        for first in firsts {
-            let mut block = vec![0, 131, 1, (first / 256) as u8, first as u8];
-            block.extend_from_slice(&image[2 * first..2 * first + 128]);
-            let ours = full.with(|bytes| lent::gathering_accept(bytes, &block)).map_err(refused_of);
-            tally.same(name, ours, Ok(()));
-            tally.same(name, history.take(&block), Ok(()));
-        }
-        full.check(tally, &history.bytes());
-        decode(tally, bench, &full, &history, &name);
-    }
+    both
 }
 
+/// A gathering that takes the thirteen blocks of an image in any order.
+fn fill(tally: &mut Tally, numbers: &mut Numbers, image: &[u8], name: &dyn Fn() -> String) -> (Lent, History) {
+    let mut full = Lent::fresh(tally, 0);
+    let mut history = History::new();
+    let mut firsts: Vec<usize> = (0..13).map(|block| 64 * block).collect();
+    for i in (1..firsts.len()).rev() {
+        firsts.swap(i, numbers.below(i as u64 + 1) as usize);
+    }
+    for first in firsts {
+        let mut block = vec![0, 131, 1, (first / 256) as u8, first as u8];
+        block.extend_from_slice(&image[2 * first..2 * first + 128]);
+        let ours = full.with(|bytes| lent::gathering_accept(bytes, &block)).map_err(refused_of);
+        tally.same(Held::Sets, name, ours, history.take(&block));
+    }
+    full.check(tally, &history);
+    (full, history)
+}
+
+/// Decodes a gathering: refused where a word is in conflict or missing, else answered as its image is.
 fn decode(tally: &mut Tally, bench: &mut Bench, gathering: &Lent, history: &History, name: &dyn Fn() -> String) {
     let at = |mark| (0..832).find(|word| history.word(*word).0 == mark).map(|word| word as u64);
     let image: Vec<u8> = history.bytes()[..1664].to_vec();
-    let expected = match (at(2), at(0)) {
-        (Some(word), _) => Err(Refused { number: 9, table: 0, place: word }),
-        (None, Some(word)) => Err(Refused { number: 10, table: 0, place: word }),
-        (None, None) => model::verdict(&image).map(|_| ()),
+    let (held, expected) = match (at(2), at(0)) {
+        (Some(word), _) => (Held::Sets, Err(Refused { number: 9, table: 0, place: word })),
+        (None, Some(word)) => (Held::Sets, Err(Refused { number: 10, table: 0, place: word })),
+        (None, None) => {
+            tally.image(&image);
+            (Held::Walk, model::verdict(&image).map(|_| ()))
+        }
     };
     let bytes = gathering.bytes();
     let ours = bench.lend(tally, FULL, |offset, alpha, k_ta, record| {
         lent::gathering_from_data(bytes, offset, alpha, k_ta, record)
     });
-    tally.same(name, ours, expected);
+    tally.same(held, name, ours, expected);
     if ours.is_ok() && expected.is_ok() {
-        tally.current().accepted += 1;
+        tally.accepted();
         let judge = Release::decode(&image).answer().expect("the original crate takes an accepted image");
-        bench.compare(tally, &judge, Depth { questions: true, cross: false }, name);
+        bench.compare(tally, Held::Crate, &judge, Depth { questions: true, cross: false }, name);
     }
     // Short tables come after 9 and 10, before 3 and 4.
     let short = [1535, 3072, 3072, 122];
     let ours = bench.lend(tally, short, |offset, alpha, k_ta, record| {
         lent::gathering_from_data(bytes, offset, alpha, k_ta, record)
     });
-    let expected = match expected {
-        Err(refused) if refused.number == 9 || refused.number == 10 => Err(refused),
-        _ => Err(refused(2)),
-    };
-    tally.same(name, ours, expected);
+    match held {
+        Held::Sets => tally.same(Held::Sets, name, ours, expected),
+        _ => tally.same(Held::Rules, name, ours, Err(refused(2))),
+    }
 }
 
 /// Slices of every length around the full ones.
 pub fn short_slices(tally: &mut Tally) {
-    let block = [0u8, 5, 1, 0, 0, 1, 2];
     for len in (0..2496).step_by(13).chain(2480..2500) {
-        let expected = if len < 2496 { Err(refused(2)) } else { Ok(()) };
-        let mut guarded = Guarded::new();
-        let ours = lent::gathering_fresh(guarded.reset(len, 0xA5)).map_err(refused_of);
-        tally.same(|| format!("fresh of {} bytes", len), ours, expected);
-        tally.same(|| format!("fresh of {} bytes", len), guarded.kept_after(2496.min(len)), true);
-        for block in [&block[..], &[]] {
-            let ours = lent::gathering_accept(guarded.reset(len, 0), block).map_err(refused_of);
-            let expected = if len < 2496 { Err(refused(2)) } else { model::block(block).map(|_| ()) };
-            tally.same(|| format!("accept into {} bytes", len), ours, expected);
-            tally.same(
-                || format!("accept into {} bytes", len),
-                guarded.kept_after(if ours.is_ok() { 2496 } else { 0 }),
-                true,
-            );
-        }
-        let other = vec![1u8; len];
-        let ours = lent::gathering_merge(guarded.reset(2496, 0), &other).map_err(refused_of);
-        tally.same(|| format!("merge of {} bytes", len), ours, expected);
-        tally.same(|| format!("merge of {} bytes", len), len >= 2496 || guarded.kept_after(0), true);
-        let ours = lent::gathering_merge(guarded.reset(len, 0), &[1; 2496]).map_err(refused_of);
-        tally.same(|| format!("merge into {} bytes", len), ours, expected);
-        tally.same(|| format!("merge into {} bytes", len), len >= 2496 || guarded.kept_after(0), true);
-        let zeros = vec![0u8; len];
-        let status = if len < 2496 { Err(refused(2)) } else { Ok((832, 0)) };
-        tally.same(|| format!("status of {} bytes", len), lent::gathering_status(&zeros).map_err(refused_of), status);
-        let word = if len < 2496 { Err(refused(2)) } else { Ok((0, 0)) };
-        tally.same(|| format!("word of {} bytes", len), lent::gathering_word(&zeros, 831).map_err(refused_of), word);
-        tally.same(
-            || format!("word of {} bytes", len),
-            lent::gathering_word(&zeros, 832).map_err(refused_of),
-            Err(refused(11)),
-        );
-        let decoded = lent::gathering_from_data(&zeros, &mut [], &mut [], &mut [], &mut []).map_err(refused_of);
-        let expected = if len < 2496 { Err(refused(2)) } else { Err(refused(10)) };
-        tally.same(|| format!("gathering of {} bytes decoded", len), decoded, expected);
+        short_written(tally, len);
+        short_read(tally, len);
     }
+}
+
+/// A gathering of any length that is written: refused where it is too short, and then left as it was.
+fn short_written(tally: &mut Tally, len: usize) {
+    let block = [0u8, 5, 1, 0, 0, 1, 2];
+    let mut guarded = Guarded::new();
+    let mut check = |name: &str, len: usize, call: &dyn Fn(&mut [u8]) -> Result<(), Refusal>, expected| {
+        let name = || format!("{} {} bytes", name, len);
+        let ours = call(guarded.reset(len, 0xA5)).map_err(refused_of);
+        tally.same(Held::Rules, name, ours, expected);
+        guarded.stayed(tally, if ours.is_ok() { 2496 } else { 0 }, name);
+    };
+    let short = if len < 2496 { Err(refused(2)) } else { Ok(()) };
+    check("fresh of", len, &lent::gathering_fresh, short);
+    for block in [&block[..], &[]] {
+        let expected = short.and_then(|()| model::block(block).map(|_| ()));
+        check("accept into", len, &|bytes| lent::gathering_accept(bytes, block), expected);
+    }
+    let other = vec![1u8; len];
+    check("merge of others into", 2496, &|bytes| lent::gathering_merge(bytes, &other), short);
+    check("merge into", len, &|bytes| lent::gathering_merge(bytes, &[1; 2496]), short);
+}
+
+/// A gathering of any length that is only read.
+fn short_read(tally: &mut Tally, len: usize) {
+    let zeros = vec![0u8; len];
+    let unless_short = |number| Err(refused(if len < 2496 { 2 } else { number }));
+    let status = if len < 2496 { Err(refused(2)) } else { Ok((832, 0)) };
+    let ours = lent::gathering_status(&zeros).map_err(refused_of);
+    tally.same(Held::Rules, || format!("status of {} bytes", len), ours, status);
+    let word = if len < 2496 { Err(refused(2)) } else { Ok((0, 0)) };
+    let ours = lent::gathering_word(&zeros, 831).map_err(refused_of);
+    tally.same(Held::Rules, || format!("word of {} bytes", len), ours, word);
+    let ours = lent::gathering_word(&zeros, 832).map_err(refused_of);
+    tally.same(Held::Rules, || format!("word of {} bytes", len), ours, Err(refused(11)));
+    let ours = lent::gathering_from_data(&zeros, &mut [], &mut [], &mut [], &mut []).map_err(refused_of);
+    tally.same(Held::Rules, || format!("gathering of {} bytes decoded", len), ours, unless_short(10));
 }

@@ -2,8 +2,8 @@
 use mofuleka::{lent, Refusal};
 
 use crate::judge::{Checked, Judge, Outcome, Release};
-use crate::model::{self, Refused};
-use crate::tally::Tally;
+use crate::model::{self, Decoded, Refused};
+use crate::tally::{Held, Tally};
 
 const GUARD: usize = 64;
 
@@ -32,11 +32,14 @@ impl Guarded {
         &self.bytes[GUARD..GUARD + self.len]
     }
 
-    /// Whether everything but the first bytes of the slice is as it was filled.
-    pub fn kept_after(&self, written: usize) -> bool {
-        let fill = self.fill;
-        self.bytes[..GUARD].iter().all(|byte| *byte == fill)
-            && self.bytes[GUARD + written..].iter().all(|byte| *byte == fill)
+    /// Shows that everything but the first `written` bytes of the slice is as it was filled.
+    pub fn stayed(&self, tally: &mut Tally, written: usize, name: impl FnOnce() -> String) {
+        let (before, after) = (&self.bytes[..GUARD], &self.bytes[GUARD + written..]);
+        let touched = before.iter().chain(after).filter(|byte| **byte != self.fill).count();
+        let looked_at = before.len() + after.len();
+        tally.count(Held::Bytes, looked_at as u64, touched as u64, || {
+            format!("{}: written where nothing may be", name())
+        });
     }
 }
 
@@ -77,12 +80,27 @@ fn field_of(at: usize) -> &'static str {
     FIELDS.iter().rev().find(|(_, start)| *start <= at).map(|(name, _)| *name).unwrap_or("")
 }
 
+/// Compares two records; one that differs counts as one number that differs.
+fn compare_records(tally: &mut Tally, held: Held, ours: &[u8], expected: &[u8; 122], name: &dyn Fn() -> String) {
+    let at = (0..122).find(|at| ours[*at] != expected[*at]);
+    tally.count(held, RECORD_NUMBERS, u64::from(at.is_some()), || {
+        let at = at.unwrap_or(0);
+        let (byte, must) = (ours[at], expected[at]);
+        format!("{}: {}: record byte {} is {:02X}, must be {:02X}", name(), field_of(at), at, byte, must)
+    });
+}
+
+/// The entries of a table of floats, as their bits.
+fn bits(bytes: &[u8]) -> impl Iterator<Item = u32> + '_ {
+    bytes.chunks_exact(4).map(|b| u32::from_be_bytes([b[0], b[1], b[2], b[3]]))
+}
+
 /// How thoroughly an image is compared besides its record and tables.
 #[derive(Clone, Copy)]
 pub struct Depth {
     /// Ask for Kv and the corrections of all pixels.
     pub questions: bool,
-    /// Hold the model and the crate with overflow checks to the crate's release build too.
+    /// Hold the library to the crate with overflow checks, and the model to the crate's release build, too.
     pub cross: bool,
 }
 
@@ -121,13 +139,9 @@ impl Bench {
             k_ta.reset(lens[2], fill),
             record.reset(lens[3], fill),
         );
-        for (slice, full) in self.slices.iter().zip(FULL) {
+        for (which, (slice, full)) in self.slices.iter().zip(FULL).enumerate() {
             let written = if answer.is_ok() { full } else { 0 };
-            if slice.kept_after(written) {
-                tally.equal(1);
-            } else {
-                tally.different(|| "a byte was written that had to stay".to_string());
-            }
+            slice.stayed(tally, written, || format!("slice {}", which));
         }
         answer.map_err(refused_of)
     }
@@ -147,151 +161,122 @@ impl Bench {
         let answer = self.lend(tally, lens, |offset, alpha, k_ta, record| {
             lent::from_data(&held[shift..], offset, alpha, k_ta, record)
         });
-        if &held[shift..] != image {
-            tally.different(|| "the image was written".to_string());
-        }
+        let touched = held[shift..].iter().zip(image).filter(|(now, before)| now != before).count();
+        tally.count(Held::Bytes, image.len() as u64, touched as u64, || "the image was written".to_string());
         self.image = held;
         answer
     }
 
     /// Compares what was last decoded with one judge's record and tables.
-    pub fn compare<J: Judge>(&mut self, tally: &mut Tally, judge: &J, depth: Depth, name: &dyn Fn() -> String) {
-        let record = &self.slices[3].slice()[..122];
-        let expected = judge.record();
-        if record == &expected[..] {
-            tally.equal(RECORD_NUMBERS);
-        } else {
-            let at = (0..122).find(|at| record[*at] != expected[*at]).unwrap_or(0);
-            tally.different(|| {
-                format!(
-                    "{}: {}: record byte {} is {:02X}, must be {:02X}",
-                    name(),
-                    field_of(at),
-                    at,
-                    record[at],
-                    expected[at]
-                )
-            });
-        }
-        let offset = self.slices[0].slice();
-        if judge.offset().iter().zip(offset.chunks_exact(2)).all(|(x, b)| b == x.to_be_bytes()) {
-            tally.equal(768);
-        } else {
-            for (pixel, (x, b)) in judge.offset().iter().zip(offset.chunks_exact(2)).enumerate() {
-                tally.same(|| format!("{}: offset {}", name(), pixel), i16::from_be_bytes([b[0], b[1]]), *x);
-            }
-        }
-        for (which, table) in [(1, judge.alpha()), (2, judge.k_ta())] {
-            let bytes = self.slices[which].slice();
-            if table.iter().zip(bytes.chunks_exact(4)).all(|(x, b)| b == x.to_bits().to_be_bytes()) {
-                tally.equal(768);
-            } else {
-                for (pixel, (x, b)) in table.iter().zip(bytes.chunks_exact(4)).enumerate() {
-                    let ours = u32::from_be_bytes([b[0], b[1], b[2], b[3]]);
-                    tally.same(|| format!("{}: table {} pixel {}", name(), which, pixel), ours, x.to_bits());
-                }
-            }
+    pub fn compare<J: Judge>(
+        &mut self,
+        tally: &mut Tally,
+        held: Held,
+        judge: &J,
+        depth: Depth,
+        name: &dyn Fn() -> String,
+    ) {
+        let [offset, alpha, k_ta, record] = &self.slices;
+        compare_records(tally, held, record.slice(), &judge.record(), name);
+        let ours = offset.slice()[..FULL[0]].chunks_exact(2).map(|b| i16::from_be_bytes([b[0], b[1]]));
+        tally.list(held, |pixel| format!("{}: offset {}", name(), pixel), ours, judge.offset().iter().copied());
+        for (which, slice, table) in [("alpha", alpha, judge.alpha()), ("Kta", k_ta, judge.k_ta())] {
+            let ours = bits(&slice.slice()[..FULL[1]]);
+            tally.list(
+                held,
+                |pixel| format!("{}: {} {}", name(), which, pixel),
+                ours,
+                table.iter().map(|x| x.to_bits()),
+            );
         }
         if depth.questions {
-            self.questions(tally, judge, name);
+            self.questions(tally, held, judge, name);
         }
     }
 
-    fn questions<J: Judge>(&mut self, tally: &mut Tally, judge: &J, name: &dyn Fn() -> String) {
+    /// Asks everything that can be asked of the record that was last decoded.
+    fn questions<J: Judge>(&mut self, tally: &mut Tally, held: Held, judge: &J, name: &dyn Fn() -> String) {
         let record = self.slices[3].slice();
         judge.k_v(&mut self.k_v);
-        tally.same(|| "Kv's count".to_string(), self.k_v.len(), 768);
-        for (pixel, expected) in self.k_v.iter().enumerate() {
-            let ours = lent::k_v_pixel(record, pixel).map(f32::to_bits).map_err(refused_of);
-            if ours != Ok(*expected) {
-                tally.different(|| format!("{}: Kv {}: {:?}, must be {:08X}", name(), pixel, ours, expected));
-            }
-        }
-        tally.equal(768);
+        tally.same(Held::Judges, || "Kv's count".to_string(), self.k_v.len(), 768);
+        let ours = (0..768).map(|pixel| lent::k_v_pixel(record, pixel).map(f32::to_bits).map_err(refused_of));
+        tally.list(held, |pixel| format!("{}: Kv {}", name(), pixel), ours, self.k_v.iter().map(|x| Ok(*x)));
         for pattern in 0..2 {
             judge.corrections(pattern, &mut self.corrections);
-            tally.same(|| "the corrections' count".to_string(), self.corrections.len(), 768);
-            for (pixel, expected) in self.corrections.iter().enumerate() {
-                let ours = lent::interleave_correction_pixel(record, pattern, pixel)
-                    .map(|number| number.map(f32::to_bits))
-                    .map_err(refused_of);
-                if ours != Ok(*expected) {
-                    tally.different(|| {
-                        format!("{}: correction {} {}: {:?}, must be {:?}", name(), pattern, pixel, ours, expected)
-                    });
-                }
-            }
-            tally.equal(768);
-            for subpage in 0..2 {
-                let ours = lent::interleave_correction_cp(record, pattern, subpage)
-                    .map(|number| number.map(f32::to_bits))
-                    .map_err(refused_of);
-                tally.same(
-                    || format!("{}: correction cp {} {}", name(), pattern, subpage),
-                    ours,
-                    Ok(judge.correction_cp(pattern, subpage)),
-                );
-            }
+            tally.same(Held::Judges, || "the corrections' count".to_string(), self.corrections.len(), 768);
+            let bits = |answer: Result<Option<f32>, Refusal>| answer.map(|x| x.map(f32::to_bits)).map_err(refused_of);
+            let ours = (0..768).map(|pixel| bits(lent::interleave_correction_pixel(record, pattern, pixel)));
+            let expected = self.corrections.iter().map(|x| Ok(*x));
+            tally.list(held, |pixel| format!("{}: correction {} {}", name(), pattern, pixel), ours, expected);
+            let ours = (0..2).map(|subpage| bits(lent::interleave_correction_cp(record, pattern, subpage)));
+            let expected = (0..2).map(|subpage| Ok(judge.correction_cp(pattern, subpage)));
+            tally.list(held, |subpage| format!("{}: correction cp {} {}", name(), pattern, subpage), ours, expected);
         }
         for subpage in 0..2 {
-            tally.same(
-                || format!("{}: alpha_cp {}", name(), subpage),
-                lent::alpha_cp(record, subpage).map(f32::to_bits).map_err(refused_of),
-                Ok(judge.alpha_cp(subpage)),
-            );
-            tally.same(
-                || format!("{}: offset_reference_cp {}", name(), subpage),
-                lent::offset_reference_cp(record, subpage).map_err(refused_of),
-                Ok(judge.offset_reference_cp(subpage)),
-            );
+            let ours = lent::alpha_cp(record, subpage).map(f32::to_bits).map_err(refused_of);
+            tally.same(held, || format!("{}: alpha_cp {}", name(), subpage), ours, Ok(judge.alpha_cp(subpage)));
+            let ours = lent::offset_reference_cp(record, subpage).map_err(refused_of);
+            let expected = Ok(judge.offset_reference_cp(subpage));
+            tally.same(held, || format!("{}: offset_reference_cp {}", name(), subpage), ours, expected);
         }
     }
 
     /// One image: the refusal that must come, or every number of the original crate's answer.
     pub fn image(&mut self, tally: &mut Tally, image: &[u8], depth: Depth, name: &dyn Fn() -> String) {
-        tally.current().images += 1;
+        tally.image(image);
         let expected = model::verdict(image).map(|_| ());
         let ours = self.decode(tally, image);
+        tally.same(Held::Walk, name, ours, expected);
         if ours != expected {
-            tally.different(|| format!("{}: {:?}, must be {:?}", name(), ours, expected));
             return;
         }
-        tally.equal(1);
         match expected {
-            Ok(()) => {
-                tally.current().accepted += 1;
-                let judge = match Release::decode(image).answer() {
-                    Some(judge) => judge,
-                    None => {
-                        tally.different(|| format!("{}: accepted, but not by the original crate", name()));
-                        return;
-                    }
-                };
-                self.compare(tally, &judge, depth, name);
-                if depth.cross {
-                    match Checked::decode(image).answer() {
-                        Some(checked) => self.compare(tally, &checked, depth, name),
-                        None => tally.different(|| format!("{}: the crate with overflow checks gives no answer", name())),
-                    }
-                    let model = model::decode(image).expect("accepted above");
-                    let record = self.slices[3].slice();
-                    tally.same(|| format!("{}: the model's record", name()), &record[..122], &model.record[..]);
-                    let offsets = model.offset.iter().zip(judge.offset()).all(|(a, b)| a == b);
-                    let alphas = model.alpha.iter().zip(judge.alpha()).all(|(a, b)| a.to_bits() == b.to_bits());
-                    let k_tas = model.k_ta.iter().zip(judge.k_ta()).all(|(a, b)| a.to_bits() == b.to_bits());
-                    tally.same(|| format!("{}: the model's tables", name()), (offsets, alphas, k_tas), (true, true, true));
-                }
-            }
-            Err(refused) => {
-                let release = Release::decode(image);
-                let checked = Checked::decode(image);
-                let refusals = tally.refusals.entry(refused.number).or_default();
-                refusals.seen += 1;
-                refusals.release[place_of(&release)] += 1;
-                refusals.checked[place_of(&checked)] += 1;
-            }
+            Ok(()) => self.accepted(tally, image, depth, name),
+            Err(refused) => count_refused(tally, image, refused),
         }
     }
+
+    /// An image that was decoded just now, and had to be accepted.
+    fn accepted(&mut self, tally: &mut Tally, image: &[u8], depth: Depth, name: &dyn Fn() -> String) {
+        tally.accepted();
+        let judge = match Release::decode(image).answer() {
+            Some(judge) => judge,
+            None => {
+                tally.different(Held::Crate, || format!("{}: accepted, but not by the original crate", name()));
+                return;
+            }
+        };
+        self.compare(tally, Held::Crate, &judge, depth, name);
+        if depth.cross {
+            match Checked::decode(image).answer() {
+                Some(checked) => self.compare(tally, Held::Checked, &checked, depth, name),
+                None => tally.different(Held::Checked, || format!("{}: no answer with overflow checks", name())),
+            }
+            compare_judges(tally, &model::decode(image).expect("accepted above"), &judge, name);
+        }
+    }
+}
+
+/// Holds the model's numbers to the original crate's, so that its refusals can be believed.
+fn compare_judges<J: Judge>(tally: &mut Tally, model: &Decoded, judge: &J, name: &dyn Fn() -> String) {
+    let held = Held::Judges;
+    compare_records(tally, held, &model.record, &judge.record(), name);
+    let (ours, expected) = (model.offset.iter(), judge.offset().iter());
+    tally.list(held, |pixel| format!("{}: the model's offset {}", name(), pixel), ours, expected);
+    for (which, ours, expected) in [("alpha", &model.alpha, judge.alpha()), ("Kta", &model.k_ta, judge.k_ta())] {
+        let (ours, expected) = (ours.iter().map(|x| x.to_bits()), expected.iter().map(|x| x.to_bits()));
+        tally.list(held, |pixel| format!("{}: the model's {} {}", name(), which, pixel), ours, expected);
+    }
+}
+
+/// Counts what the original crate does with an image that is refused here.
+fn count_refused(tally: &mut Tally, image: &[u8], refused: Refused) {
+    let release = Release::decode(image);
+    let checked = Checked::decode(image);
+    let refusals = tally.refusals.entry(refused.number).or_default();
+    refusals.seen += 1;
+    refusals.release[place_of(&release)] += 1;
+    refusals.checked[place_of(&checked)] += 1;
 }
 
 fn place_of<T>(outcome: &Outcome<T>) -> usize {

@@ -1,8 +1,10 @@
-//! The judge's parts: the model of the rules, the original crate twice, the guarded calls into the library, and the images.
+//! The judge's parts: the model of the rules, the original crate twice, the guarded calls into the library, the images, and the count.
 pub mod gatherings;
 pub mod guarded;
 pub mod images;
 pub mod judge;
 pub mod model;
+pub mod report;
 pub mod sample;
 pub mod tally;
+pub mod two_faults;

@@ -1,4 +1,5 @@
 //! record-sample FILE: writes the fixed sample of the original crate's answers; `compare::sample` has the file's form.
+use std::collections::BTreeMap;
 use std::env;
 use std::fs;
 use std::process::exit;
@@ -6,6 +7,19 @@ use std::process::exit;
 use compare::judge;
 use compare::model;
 use compare::sample;
+
+/// What must be recorded of images with two faults is written beside them; the model has to say the same.
+fn unexpected() -> Vec<String> {
+    let mut wrong = Vec::new();
+    for two in sample::two_faults() {
+        for (said, expected) in two.answers() {
+            if said != Err(expected) {
+                wrong.push(format!("{}: the model says {:?}, not {:?}", two.what, said, expected));
+            }
+        }
+    }
+    wrong
+}
 
 fn main() {
     judge::silence_expected_panics();
@@ -16,20 +30,23 @@ fn main() {
             exit(2)
         }
     };
-    let bytes = sample::bytes();
-    let mut refusals = std::collections::BTreeMap::new();
-    for (words, len) in sample::sample() {
-        let mut image = words.to_vec();
-        image.resize(len, 0);
+    let wrong = unexpected();
+    if !wrong.is_empty() {
+        wrong.iter().for_each(|text| eprintln!("{}", text));
+        exit(1);
+    }
+    let mut verdicts = BTreeMap::new();
+    for image in sample::images() {
         let key = match model::verdict(&image) {
             Ok(_) => "accepted".to_string(),
             Err(refused) => format!("refusal {}, table {}", refused.number, refused.table),
         };
-        *refusals.entry(key).or_insert(0) += 1;
+        *verdicts.entry(key).or_insert(0) += 1;
     }
-    for (key, count) in refusals {
+    for (key, count) in verdicts {
         println!("{:>4} {}", count, key);
     }
+    let bytes = sample::entries().concat();
     if let Err(error) = fs::write(&path, &bytes) {
         eprintln!("{}", error);
         exit(1);

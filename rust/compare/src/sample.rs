@@ -25,6 +25,7 @@
 use crate::images::{self, Image, Numbers};
 use crate::judge::{Judge, Release};
 use crate::model;
+pub use crate::two_faults::two_faults;
 
 fn of(words: &[(usize, u16)]) -> (Image, usize) {
     (images::with(words), 1664)
@@ -51,11 +52,19 @@ fn accepted(make: fn(&mut Numbers) -> Image, from: u64) -> (Image, usize) {
     (image, 1664)
 }
 
-pub fn sample() -> Vec<(Image, usize)> {
-    let mut all = vec![
+/// Images that are accepted.
+fn taken() -> Vec<(Image, usize)> {
+    vec![
         of(&[]),
         // Readings: one image for several words that do not touch each other.
-        of(&[(0x2433, 0x9D68), (0x2435, 0x0841), (0x243C, 0x00FF), (0x243F, 0x2363), (0x2420, 0x7000), (0x2421, 0x2000)]),
+        of(&[
+            (0x2433, 0x9D68),
+            (0x2435, 0x0841),
+            (0x243C, 0x00FF),
+            (0x243F, 0x2363),
+            (0x2420, 0x7000),
+            (0x2421, 0x2000),
+        ]),
         of(&[(0x2410, 0x0F00), (0x2412, 0x000F), (0x243C, 0x0080), (0x243F, 0x0FF0)]),
         of(&[
             (0x2410, 0x4210),
@@ -66,24 +75,7 @@ pub fn sample() -> Vec<(Image, usize)> {
             (0x2438, 0x2001),
             (0x2440, 0xFC0E),
         ]),
-        // The datasheet's worked example.
-        of(&[
-            (0x2410, 0x4210),
-            (0x2420, 0x79A6),
-            (0x2421, 0x2F44),
-            (0x2430, 0x18EF),
-            (0x2431, 0x2FF1),
-            (0x2432, 0x5952),
-            (0x2433, 0x9D68),
-            (0x2434, 0x5454),
-            (0x2438, 0x2363),
-            (0x2439, 0xE446),
-            (0x243A, 0xFBB5),
-            (0x243B, 0x044B),
-            (0x243C, 0xF020),
-            (0x243D, 0x9797),
-            (0x25AF, 0x08A0),
-        ]),
+        of(&WORKED_EXAMPLE),
         fields(0xFFFF),
         fields(0x8000),
         fields(0x7FFF),
@@ -101,9 +93,32 @@ pub fn sample() -> Vec<(Image, usize)> {
         accepted(images::near, 200),
         accepted(images::wild, 1),
         accepted(images::sparse, 1),
-    ];
-    // Refused, each at its own step of the walk: offset, alpha, Kta.
-    all.extend([0, 1, 830, 831, 1000, 1663].iter().map(|len| (images::lifelike(1), *len)));
+    ]
+}
+
+/// The datasheet's worked example.
+const WORKED_EXAMPLE: [(usize, u16); 15] = [
+    (0x2410, 0x4210),
+    (0x2420, 0x79A6),
+    (0x2421, 0x2F44),
+    (0x2430, 0x18EF),
+    (0x2431, 0x2FF1),
+    (0x2432, 0x5952),
+    (0x2433, 0x9D68),
+    (0x2434, 0x5454),
+    (0x2438, 0x2363),
+    (0x2439, 0xE446),
+    (0x243A, 0xFBB5),
+    (0x243B, 0x044B),
+    (0x243C, 0xF020),
+    (0x243D, 0x9797),
+    (0x25AF, 0x08A0),
+];
+
+/// Images that are refused for one fault: too short, then each step of the walk in turn, of offset, alpha and Kta.
+fn refused() -> Vec<(Image, usize)> {
+    let mut all: Vec<(Image, usize)> =
+        [0, 1, 830, 831, 1000, 1663].iter().map(|len| (images::lifelike(1), *len)).collect();
     all.extend(vec![
         of(&[(0x2410, 0x0F00), (0x2412, 0x0001)]),
         of(&[(0x2410, 0x0F00), (0x2412, 0x0002)]),
@@ -119,41 +134,69 @@ pub fn sample() -> Vec<(Image, usize)> {
         of(&[(0x2420, 0x000B), (0x2500, 0x0100)]),
         of(&[(0x2438, 0x000F), (0x273F, 0x0002)]),
         of(&[(0x2436, 0xFF00), (0x2438, 0x000D), (0x2442, 0x0008)]),
-        // Two faults: the walk's first is named.
-        of(&[(0x2411, 0x7FFF), (0x2413, 0x0010), (0x2420, 0x0F00), (0x2422, 0x0001)]),
-        of(&[(0x2410, 0x0FF0), (0x2417, 0x1000), (0x2418, 0x0020)]),
+        // A term outside 16 bits that the average brings back inside.
+        of(&[(0x2436, 0xFF00), (0x2438, 0x000F), (0x2440, 0x0002)]),
+        // Too short, with a fault as well: it is too short.
+        (images::with(&[(0x2410, 0x0F00), (0x2412, 0x0001)]), 1663),
     ]);
     all
 }
 
-/// The file.
-pub fn bytes() -> Vec<u8> {
-    let mut file = Vec::new();
-    for (words, len) in sample() {
-        let mut image = words.to_vec();
-        image.resize(len, 0);
-        let set: Vec<usize> = (0..832).filter(|word| words[2 * word..2 * word + 2] != [0, 0]).collect();
-        file.extend_from_slice(&(set.len() as u16).to_be_bytes());
-        for word in set {
-            file.extend_from_slice(&(word as u16).to_be_bytes());
-            file.extend_from_slice(&words[2 * word..2 * word + 2]);
-        }
-        file.extend_from_slice(&(len as u16).to_be_bytes());
-        match model::decode(&image) {
-            Err(refused) => {
-                file.push(refused.number);
-                file.push(refused.table);
-                file.extend_from_slice(&(refused.place as u16).to_be_bytes());
-            }
-            Ok(_) => {
-                file.extend_from_slice(&[0; 4]);
-                let judge = Release::decode(&image).answer().expect("the original crate takes an accepted image");
-                file.extend_from_slice(&judge.record());
-                judge.offset().iter().for_each(|x| file.extend_from_slice(&x.to_be_bytes()));
-                judge.alpha().iter().for_each(|x| file.extend_from_slice(&x.to_bits().to_be_bytes()));
-                judge.k_ta().iter().for_each(|x| file.extend_from_slice(&x.to_bits().to_be_bytes()));
+/// The whole sample: each image as its words and its length.
+fn sample() -> Vec<(Image, usize)> {
+    let mut all = taken();
+    all.extend(refused());
+    for two in two_faults() {
+        for image in two.images() {
+            // With its first fault cured, an image may be one that is there already.
+            if !all.contains(&(image, 1664)) {
+                all.push((image, 1664));
             }
         }
     }
-    file
+    all
+}
+
+fn cut((words, len): &(Image, usize)) -> Vec<u8> {
+    let mut image = words.to_vec();
+    image.resize(*len, 0);
+    image
+}
+
+/// The sample's images, in the order of the file.
+pub fn images() -> Vec<Vec<u8>> {
+    sample().iter().map(cut).collect()
+}
+
+/// The file, entry by entry.
+pub fn entries() -> Vec<Vec<u8>> {
+    sample().iter().map(entry).collect()
+}
+
+fn entry(of: &(Image, usize)) -> Vec<u8> {
+    let (words, len) = of;
+    let set: Vec<usize> = (0..832).filter(|word| words[2 * word..2 * word + 2] != [0, 0]).collect();
+    let mut entry = (set.len() as u16).to_be_bytes().to_vec();
+    for word in set {
+        entry.extend_from_slice(&(word as u16).to_be_bytes());
+        entry.extend_from_slice(&words[2 * word..2 * word + 2]);
+    }
+    entry.extend_from_slice(&(*len as u16).to_be_bytes());
+    let image = cut(of);
+    match model::decode(&image) {
+        Err(refused) => {
+            entry.push(refused.number);
+            entry.push(refused.table);
+            entry.extend_from_slice(&(refused.place as u16).to_be_bytes());
+        }
+        Ok(_) => {
+            entry.extend_from_slice(&[0; 4]);
+            let judge = Release::decode(&image).answer().expect("the original crate takes an accepted image");
+            entry.extend_from_slice(&judge.record());
+            judge.offset().iter().for_each(|x| entry.extend_from_slice(&x.to_be_bytes()));
+            judge.alpha().iter().for_each(|x| entry.extend_from_slice(&x.to_bits().to_be_bytes()));
+            judge.k_ta().iter().for_each(|x| entry.extend_from_slice(&x.to_bits().to_be_bytes()));
+        }
+    }
+    entry
 }

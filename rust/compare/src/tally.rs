@@ -1,12 +1,108 @@
-//! What was compared, kind by kind.
+//! What was compared: part by part, and in each part by what it was held to. `report` prints it.
+use std::collections::hash_map::DefaultHasher;
 use std::collections::BTreeMap;
+use std::fmt::Debug;
+use std::hash::{Hash, Hasher};
 
-#[derive(Clone, Default)]
-pub struct Kind {
-    pub images: u64,
-    pub accepted: u64,
-    pub numbers: u64,
+/// What a comparison holds its subject to.
+#[derive(Clone, Copy, Debug, Eq, PartialEq)]
+pub enum Held {
+    Crate,
+    Checked,
+    Walk,
+    Sets,
+    Rules,
+    Judges,
+    Files,
+    Bytes,
+}
+
+impl Held {
+    /// Comparisons of the library's answers, those with the original crate first.
+    pub const ANSWERS: [Held; 5] = [Held::Crate, Held::Checked, Held::Walk, Held::Sets, Held::Rules];
+    /// Comparisons with a model, where the original crate has no answer that counts.
+    pub const MODELS: [Held; 3] = [Held::Walk, Held::Sets, Held::Rules];
+    /// Comparisons that are not about an answer of the library.
+    pub const BESIDE: [Held; 3] = [Held::Judges, Held::Files, Held::Bytes];
+
+    pub fn all() -> impl Iterator<Item = Held> {
+        Held::ANSWERS.iter().chain(&Held::BESIDE).copied()
+    }
+
+    pub fn name(self) -> &'static str {
+        match self {
+            Held::Crate => "crate",
+            Held::Checked => "checked",
+            Held::Walk => "walk",
+            Held::Sets => "sets",
+            Held::Rules => "rules",
+            Held::Judges => "judges",
+            Held::Files => "files",
+            Held::Bytes => "bytes",
+        }
+    }
+
+    pub fn meaning(self) -> &'static str {
+        match self {
+            Held::Crate => "the original crate, release build",
+            Held::Checked => "the original crate once more, built with overflow checks",
+            Held::Walk => "model in wide integers: an image is accepted, or its refusal, table and pixel",
+            Held::Sets => "model of sets: words, marks, counts and refusals of gatherings",
+            Held::Rules => "model of the interface's rules: out of range, too short, unread, any record",
+            Held::Judges => "not the library: the model and the crate's two builds, against each other",
+            Held::Files => "not the library: rows of docs/DIFFERENCES.md and the recorded sample",
+            Held::Bytes => "bytes that a call must leave: guards, the image, all that a refused call is lent",
+        }
+    }
+}
+
+#[derive(Clone, Copy, Default)]
+pub struct Count {
+    pub compared: u64,
     pub different: u64,
+}
+
+impl Count {
+    fn add(&mut self, other: Count) {
+        self.compared += other.compared;
+        self.different += other.different;
+    }
+}
+
+/// One part of the run: images of one kind, or questions of one kind.
+#[derive(Clone, Default)]
+pub struct Part {
+    counts: [Count; 8],
+    /// A hash of each image that was compared.
+    images: Vec<u64>,
+    pub accepted: u64,
+}
+
+impl Part {
+    pub fn count(&self, held: Held) -> Count {
+        self.counts[held as usize]
+    }
+
+    pub fn images(&self) -> usize {
+        self.images.len()
+    }
+
+    pub fn add(&mut self, other: Part) {
+        for (mine, theirs) in self.counts.iter_mut().zip(other.counts) {
+            mine.add(theirs);
+        }
+        self.images.extend(other.images);
+        self.accepted += other.accepted;
+    }
+}
+
+/// How many images there are among those of some parts, each counted once. Two images whose 64-bit hashes happen to be the
+/// same would make the count one too small, never too large.
+pub fn distinct<'a>(parts: impl Iterator<Item = &'a Part>) -> usize {
+    let mut hashes: Vec<u64> = parts.flat_map(|part| part.images.iter().copied()).collect();
+    hashes.sort_unstable();
+    hashes.dedup();
+    hashes.len()
 }
 
 /// What the original crate did where the library refuses.
@@ -21,57 +117,95 @@ pub struct Refusals {
 
 #[derive(Clone, Default)]
 pub struct Tally {
-    pub kinds: BTreeMap<&'static str, Kind>,
+    pub parts: BTreeMap<&'static str, Part>,
     pub refusals: BTreeMap<u8, Refusals>,
+    /// The first few differences, in words.
     pub shown: Vec<String>,
+    /// What this run did not compare, and why.
+    pub left_out: Vec<String>,
     current: &'static str,
 }
 
 const SHOWN: usize = 20;
 
 impl Tally {
-    /// The kind that the following counts belong to.
-    pub fn kind(&mut self, name: &'static str) -> &mut Kind {
+    /// The part that the following counts belong to.
+    pub fn part(&mut self, name: &'static str) {
         self.current = name;
-        self.kinds.entry(name).or_default()
+        self.current();
     }
 
-    pub fn current(&mut self) -> &mut Kind {
-        self.kinds.entry(self.current).or_default()
+    fn current(&mut self) -> &mut Part {
+        self.parts.entry(self.current).or_default()
     }
 
-    /// Counts numbers compared and found equal.
-    pub fn equal(&mut self, numbers: u64) {
-        self.current().numbers += numbers;
+    /// An image that is compared.
+    pub fn image(&mut self, image: &[u8]) {
+        let mut hasher = DefaultHasher::new();
+        image.hash(&mut hasher);
+        self.current().images.push(hasher.finish());
     }
 
-    /// Counts a difference; the first few are printed at the end.
-    pub fn different(&mut self, what: impl FnOnce() -> String) {
-        let current = self.current;
-        let kind = self.current();
-        kind.numbers += 1;
-        kind.different += 1;
-        if self.shown.len() < SHOWN {
-            self.shown.push(format!("{}: {}", current, what()));
+    /// An image that the library accepts.
+    pub fn accepted(&mut self) {
+        self.current().accepted += 1;
+    }
+
+    /// Counts things that were compared, of which some may differ; the first few differences are printed at the end.
+    pub fn count(&mut self, held: Held, compared: u64, different: u64, first: impl FnOnce() -> String) {
+        self.current().counts[held as usize].add(Count { compared, different });
+        if different > 0 && self.shown.len() < SHOWN {
+            self.shown.push(format!("{} ({}): {}", self.current, held.name(), first()));
         }
+    }
+
+    pub fn equal(&mut self, held: Held, compared: u64) {
+        self.count(held, compared, 0, String::new);
+    }
+
+    pub fn different(&mut self, held: Held, what: impl FnOnce() -> String) {
+        self.count(held, 1, 1, what);
     }
 
     /// Compares two things as one number.
-    pub fn same<T: PartialEq + std::fmt::Debug>(&mut self, name: impl FnOnce() -> String, ours: T, expected: T) {
-        if ours == expected {
-            self.equal(1);
-        } else {
-            self.different(|| format!("{}: {:?}, must be {:?}", name(), ours, expected));
+    pub fn same<T: PartialEq + Debug>(&mut self, held: Held, name: impl FnOnce() -> String, ours: T, expected: T) {
+        let different = u64::from(ours != expected);
+        self.count(held, 1, different, || format!("{}: {:?}, must be {:?}", name(), ours, expected));
+    }
+
+    /// Compares two lists entry by entry, and so their lengths.
+    pub fn list<T: PartialEq + Debug>(
+        &mut self,
+        held: Held,
+        name: impl Fn(u64) -> String,
+        mut ours: impl Iterator<Item = T>,
+        mut expected: impl Iterator<Item = T>,
+    ) {
+        let (mut place, mut different, mut first) = (0, 0, None);
+        loop {
+            let (mine, must) = (ours.next(), expected.next());
+            if mine.is_none() && must.is_none() {
+                break;
+            }
+            if mine != must {
+                different += 1;
+                first.get_or_insert((place, mine, must));
+            }
+            place += 1;
         }
+        self.count(held, place, different, || match first {
+            Some((place, mine, must)) => format!("{}: {:?}, must be {:?}", name(place), mine, must),
+            None => String::new(),
+        });
+    }
+
+    pub fn left_out(&mut self, what: impl Into<String>) {
+        self.left_out.push(what.into());
     }
 
     pub fn merge(&mut self, other: Tally) {
-        for (name, kind) in other.kinds {
-            let mine = self.kinds.entry(name).or_default();
-            mine.images += kind.images;
-            mine.accepted += kind.accepted;
-            mine.numbers += kind.numbers;
-            mine.different += kind.different;
+        for (name, part) in other.parts {
+            self.parts.entry(name).or_default().add(part);
         }
         for (number, refusals) in other.refusals {
             let mine = self.refusals.entry(number).or_default();
@@ -81,54 +215,21 @@ impl Tally {
                 mine.checked[i] += refusals.checked[i];
             }
         }
-        for text in other.shown {
-            if self.shown.len() < SHOWN {
-                self.shown.push(text);
-            }
-        }
+        self.shown.extend(other.shown);
+        self.shown.truncate(SHOWN);
+        self.left_out.extend(other.left_out);
     }
 
-    pub fn numbers(&self) -> u64 {
-        self.kinds.values().map(|kind| kind.numbers).sum()
+    /// All parts together, held to any of these.
+    pub fn total(&self, held: &[Held]) -> Count {
+        let mut total = Count::default();
+        for part in self.parts.values() {
+            held.iter().for_each(|held| total.add(part.count(*held)));
+        }
+        total
     }
 
     pub fn total_different(&self) -> u64 {
-        self.kinds.values().map(|kind| kind.different).sum()
-    }
-
-    pub fn print(&self) {
-        println!("{:<38} {:>10} {:>10} {:>14} {:>10}", "kind", "images", "accepted", "numbers", "different");
-        for (name, kind) in &self.kinds {
-            println!(
-                "{:<38} {:>10} {:>10} {:>14} {:>10}",
-                name, kind.images, kind.accepted, kind.numbers, kind.different
-            );
-        }
-        println!();
-        println!("What the original crate does with the images that are refused here:");
-        println!(
-            "{:<8} {:>10}   {:>10} {:>10} {:>10}   {:>10} {:>10} {:>10}",
-            "refusal", "images", "release:", "", "", "overflow", "checks:", ""
-        );
-        println!(
-            "{:<8} {:>10}   {:>10} {:>10} {:>10}   {:>10} {:>10} {:>10}",
-            "", "", "answers", "error", "panics", "answers", "error", "panics"
-        );
-        for (number, r) in &self.refusals {
-            println!(
-                "{:<8} {:>10}   {:>10} {:>10} {:>10}   {:>10} {:>10} {:>10}",
-                number,
-                r.seen,
-                r.release[0],
-                r.release[1],
-                r.release[2],
-                r.checked[0],
-                r.checked[1],
-                r.checked[2]
-            );
-        }
-        for text in &self.shown {
-            println!("DIFFERENT {}", text);
-        }
+        Held::all().map(|held| self.total(&[held]).different).sum()
     }
 }

@@ -1,7 +1,7 @@
 //! A viewer's use of the calibration, compiled twice from one text: once for the original crate, once for the crate over this
 //! library. Only the crate's name and what is done with an error differ.
 use compare::images;
-use compare::tally::Tally;
+use compare::tally::{Held, Tally};
 
 macro_rules! viewer {
     ($name:ident, $krate:ident, $correction:ident => $handled:expr) => {
@@ -10,8 +10,16 @@ macro_rules! viewer {
             use $krate::mlx90640::{Mlx90640, Mlx90640Calibration, RamAddress};
             use $krate::register::{AccessPattern, Subpage};
 
+            /// What a viewer sees: numbers, floats by their bits, and the text of each range.
+            #[derive(Default)]
+            pub struct Seen {
+                pub numbers: Vec<u32>,
+                pub ranges: Vec<String>,
+            }
+
             /// Generic over the calibration, as code written against the original crate's trait is.
-            fn frame<'a, C: CalibrationData<'a>>(calibration: &'a C, raw: &[i16], seen: &mut Vec<u32>) {
+            fn frame<'a, C: CalibrationData<'a>>(calibration: &'a C, raw: &[i16], all: &mut Seen) {
+                let seen = &mut all.numbers;
                 for subpage in [Subpage::Zero, Subpage::One] {
                     for pattern in [AccessPattern::Chess, AccessPattern::Interleave] {
                         let pixels = calibration
@@ -33,7 +41,7 @@ macro_rules! viewer {
                         let cp = calibration.access_pattern_compensation_cp(subpage, pattern).unwrap_or(0.0);
                         seen.push(cp.to_bits());
                         for range in C::Camera::pixel_ranges(subpage, pattern) {
-                            seen.extend(format!("{:?}", range).bytes().map(u32::from));
+                            all.ranges.push(format!("{:?}", range));
                         }
                     }
                     seen.push(calibration.alpha_cp(subpage).to_bits());
@@ -45,10 +53,11 @@ macro_rules! viewer {
                 }
             }
 
-            pub fn view(image: &[u8], raw: &[i16]) -> Option<Vec<u32>> {
+            pub fn view(image: &[u8], raw: &[i16]) -> Option<Seen> {
                 let calibration = Mlx90640Calibration::from_data(image).ok()?;
-                let mut seen = Vec::new();
-                frame(&calibration, raw, &mut seen);
+                let mut all = Seen::default();
+                frame(&calibration, raw, &mut all);
+                let seen = &mut all.numbers;
                 seen.push(calibration.k_v_dd() as u32);
                 seen.push(calibration.v_dd_25() as u32);
                 seen.push(calibration.v_dd_0().to_bits());
@@ -71,7 +80,7 @@ macro_rules! viewer {
                     seen.push(u32::from(u16::from(address)));
                 }
                 seen.push((Mlx90640::HEIGHT * Mlx90640::WIDTH + Mlx90640::NUM_PIXELS) as u32);
-                Some(seen)
+                Some(all)
             }
         }
     };
@@ -81,18 +90,21 @@ viewer!(original, mlx9064x_release, correction => correction);
 viewer!(proved, mofuleka, correction => correction.ok()?);
 
 pub fn run(tally: &mut Tally, seed: u64) {
-    tally.kind("one viewer, compiled for both crates");
+    tally.part("one viewer, compiled for both crates");
     let mut numbers = images::Numbers::new(seed);
     for i in 0..200 {
         let image = images::lifelike(i);
         let raw: Vec<i16> = (0..768).map(|_| numbers.word() as i16).collect();
-        tally.current().images += 1;
+        tally.image(&image);
         match (proved::view(&image, &raw), original::view(&image, &raw)) {
-            (Some(ours), Some(theirs)) if ours == theirs => {
-                tally.current().accepted += 1;
-                tally.equal(ours.len() as u64);
+            (Some(ours), Some(theirs)) => {
+                tally.accepted();
+                let (mine, must) = (ours.numbers.iter(), theirs.numbers.iter());
+                tally.list(Held::Crate, |at| format!("lifelike image {}, number {}", i, at), mine, must);
+                let (mine, must) = (ours.ranges.iter(), theirs.ranges.iter());
+                tally.list(Held::Crate, |at| format!("lifelike image {}, range {}", i, at), mine, must);
             }
-            _ => tally.different(|| format!("lifelike image {}", i)),
+            _ => tally.different(Held::Crate, || format!("lifelike image {} is not accepted", i)),
         }
     }
 }
