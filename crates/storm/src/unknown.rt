@@ -6,11 +6,13 @@ use gathering::Gathering;
 use gathering::mark_number;
 use refusal::code_of;
 
-// Each word has the value 7 and is held, but words 5 and 9, whose marks are unknown, and word 12, which is missing.
+// Each word has the value 7 and is held, but words 5 and 9, whose marks are unknown, word 10, which is in conflict, and word 12, which is
+// missing.
 fn unknown_state() -> Gathering {
     let mut marks = [1; 832];
     marks[5] = 3;
     marks[9] = 255;
+    marks[10] = 2;
     marks[12] = 0;
     Gathering {
         values: [7; 832],
@@ -50,6 +52,7 @@ fn questions(g: Gathering) {
     line(b"  at word ", fault.place as u64);
     asked(b"  word 5: mark ", g, 5);
     asked(b"  word 9: mark ", g, 9);
+    asked(b"  word 10: mark ", g, 10);
     asked(b"  word 11: mark ", g, 11);
     asked(b"  word 12: mark ", g, 12);
 }
@@ -58,6 +61,7 @@ fn questions(g: Gathering) {
 fn stored(g: Gathering) {
     cell(b"  stores of word 5: mark ", g.marks[5], g.values[5]);
     cell(b"  stores of word 9: mark ", g.marks[9], g.values[9]);
+    cell(b"  stores of word 10: mark ", g.marks[10], g.values[10]);
     cell(b"  stores of word 11: mark ", g.marks[11], g.values[11]);
     cell(b"  stores of word 12: mark ", g.marks[12], g.values[12]);
 }
@@ -89,7 +93,7 @@ fn next_states(g: Gathering) {
 
 pub fn unknown_marks() {
     let g = unknown_state();
-    print(b"a state with 7 for each word, word 5 marked 3, word 9 marked 255, word 12 missing\n");
+    print(b"a state with 7 for each word, words 5, 9, 10 and 12 marked 3, 255, 2 and 0\n");
     questions(g);
     print(b"its status leaves it as it is\n");
     let status = g.status();
