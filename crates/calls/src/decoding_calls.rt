@@ -63,14 +63,13 @@ pub fn with_room(what: &[u8], source: Source, bytes: &[u8]) {
     );
 }
 
-// Decodes into slices of which the first, the second, the third and the fourth in turn are too short.
-pub fn without_room(what: &[u8], source: Source, bytes: &[u8]) {
+// Decodes into slices of which the offset's, and then the record's, is too short.
+fn without_ends(what: &[u8], source: Source, bytes: &[u8]) {
     let mut offset = [0xA5u8; 1536];
     let mut alpha = [0xA5u8; 3072];
     let mut k_ta = [0xA5u8; 3072];
     let mut record = [0xA5u8; 122];
     let mut short_offset = [0xA5u8; 1535];
-    let mut short_table = [0xA5u8; 3071];
     let mut short_record = [0xA5u8; 121];
     decode(
         what,
@@ -86,28 +85,42 @@ pub fn without_room(what: &[u8], source: Source, bytes: &[u8]) {
         source,
         bytes,
         &mut offset,
-        &mut short_table,
-        &mut k_ta,
-        &mut record,
-    );
-    decode(
-        what,
-        source,
-        bytes,
-        &mut offset,
-        &mut alpha,
-        &mut short_table,
-        &mut record,
-    );
-    decode(
-        what,
-        source,
-        bytes,
-        &mut offset,
         &mut alpha,
         &mut k_ta,
         &mut short_record,
     );
+}
+
+// Decodes into slices of which alpha's, and then Kta's, is too short.
+fn without_tables(what: &[u8], source: Source, bytes: &[u8]) {
+    let mut offset = [0xA5u8; 1536];
+    let mut table = [0xA5u8; 3072];
+    let mut short_table = [0xA5u8; 3071];
+    let mut record = [0xA5u8; 122];
+    decode(
+        what,
+        source,
+        bytes,
+        &mut offset,
+        &mut short_table,
+        &mut table,
+        &mut record,
+    );
+    decode(
+        what,
+        source,
+        bytes,
+        &mut offset,
+        &mut table,
+        &mut short_table,
+        &mut record,
+    );
+}
+
+// Decodes into slices of which each in turn is too short.
+pub fn without_room(what: &[u8], source: Source, bytes: &[u8]) {
+    without_ends(what, source, bytes);
+    without_tables(what, source, bytes);
 }
 
 // Images that are accepted or too short.
