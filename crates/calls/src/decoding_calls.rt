@@ -1,8 +1,9 @@
 // Decoding an image into four slices, whole and too short by a byte. Every slice is filled with A5 before the call, so that a refused call
 // that writes shows: its slices' digests are those of every other refused call.
-use crate::images::accepted_image;
-use crate::images::alpha_and_k_ta_faults;
-use crate::images::offset_fault;
+use crate::samples::accepted_image;
+use crate::samples::alpha_and_k_ta_faults;
+use crate::samples::k_ta_fault;
+use crate::samples::offset_fault;
 use crate::say::answer;
 use crate::say::holds;
 use mofuleka::mofuleka_from_data;
@@ -140,8 +141,8 @@ fn lengths() {
 // Images with a term or a sum outside 16 bits.
 fn faults() {
     let offset = offset_fault();
-    let k_ta = alpha_and_k_ta_faults(false);
-    let both = alpha_and_k_ta_faults(true);
+    let k_ta = k_ta_fault();
+    let both = alpha_and_k_ta_faults();
     with_room(b"from_data, offset sum", Source::Image, &offset);
     without_room(
         b"from_data, offset sum and a short slice",

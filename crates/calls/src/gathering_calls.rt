@@ -2,9 +2,9 @@
 use crate::decoding_calls::Source;
 use crate::decoding_calls::with_room;
 use crate::decoding_calls::without_room;
-use crate::images::accepted_image;
-use crate::images::alpha_and_k_ta_faults;
-use crate::images::holding;
+use crate::samples::accepted_image;
+use crate::samples::alpha_and_k_ta_faults;
+use crate::samples::holding;
 use crate::say::answer;
 use crate::say::holds;
 use mofuleka::mofuleka_gathering_accept;
@@ -184,7 +184,7 @@ fn merges() {
 // A gathering that holds every word answers as its image does.
 fn whole() {
     let image = holding(&accepted_image());
-    let faulty = holding(&alpha_and_k_ta_faults(true));
+    let faulty = holding(&alpha_and_k_ta_faults());
     with_room(b"gathering_from_data", Source::Gathering, &image);
     without_room(
         b"gathering_from_data, a short slice",

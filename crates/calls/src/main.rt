@@ -3,8 +3,8 @@
 mod camera_calls;
 mod decoding_calls;
 mod gathering_calls;
-mod images;
 mod question_calls;
+mod samples;
 mod say;
 mod size_calls;
 

@@ -1,5 +1,5 @@
 // Questions to a record's bytes, and to too few of them.
-use crate::images::accepted_image;
+use crate::samples::accepted_image;
 use crate::say::answer;
 use mofuleka::mofuleka_alpha_cp;
 use mofuleka::mofuleka_from_data;

@@ -1,6 +1,6 @@
 // Listings whole: two images that are refused, and one in which no two fields have the same values.
-use crate::answer::image_with;
 use crate::report::print;
+use images::image_with;
 use listing::list_image;
 
 // A value of its own for each field, the gradient among them.

@@ -1,10 +1,10 @@
--- `calls::images::holding` is safe and ends: each word's place stays below 832.
+-- `calls::samples::holding` is safe and ends: each word's place stays below 832.
 -- Assumes nothing.
 use Prim.Native.Nat.{_-_}
 use mathlib.Core.Path.{_≡_}
 use borrow.Author.Needs.{needs}
-use Rattle.calls.proofs.images.holding.Statement.{statement}
-use Rattle.calls.proofs.images.holding.Tie as tie
+use Rattle.calls.proofs.samples.holding.Statement.{statement}
+use Rattle.calls.proofs.samples.holding.Tie as tie
 
 abbrev Inv-loop : tie.InvT-loop
 Inv-loop image gathering₀ w₀ gathering w = lib.ListN.length gathering ≡ 2496
