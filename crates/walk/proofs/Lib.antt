@@ -1,4 +1,7 @@
-pub mod Order
-pub mod Steps
-pub mod Meaning
+pub mod Walked
+pub mod Sizes
+pub mod Listed
 pub mod Bound
+pub mod Glance
+pub mod Before
+pub mod Meaning

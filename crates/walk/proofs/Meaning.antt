@@ -1,130 +1,111 @@
--- What the walk means, both ways: an image is accepted exactly where every step is inside 16 bits, and it is refused for a step exactly where that step is the first
--- outside.
+-- What the walk tests, pixel by pixel: it accepts exactly where every term and every final sum is inside, and a refused sum is the final one of its pixel and never alpha's,
+-- since the walk lists no other sum.
 -- Assumes nothing.
-use mathlib.Core.Path.{_≡_, refl, sym, ap, _∙_}
-use mathlib.Core.Bool.{Bool, true, false, cond}
+use mathlib.Core.Path.{_≡_, refl, subst}
+use mathlib.Core.Logic.{_↔_}
+use mathlib.Core.Bool.{true}
 use mathlib.Core.List.{List, [], _∷_, _++_}
-use Prim.Native.Nat.{ℕ, zero, suc, _+_, _<_}
-use native.Mathlib.Nat.{not-suc-le-zero, le-of-suc-le-suc, add-zero, zero-add}
+use Prim.Native.Nat.{ℕ, zero, suc, _+_, _/_, _%_, _<_}
 use native.Mathlib.Omega.{arith}
-use Rattle.refusal.specs.Code.{acceptedBy, orElse}
-use Rattle.refusal.proofs.Apart.{accepted-none}
 use Rattle.refusal.specs.declared.Table.{Table}
 use Rattle.refusal.specs.declared.Table.the-variants.{Offset, Alpha, Kta}
-use Rattle.refusal.specs.declared.Refusal.{Refusal}
-use Rattle.refusal.specs.declared.Refusal.the-variants.{None}
+use Rattle.refusal.specs.declared.Refusal.the-variants.{None, Sum}
 use Rattle.util.specs.Sums.{in16}
-use Rattle.walk.specs.Walk.{Step, term, sum, valueIn, refusalIn, firstOutside, AllInside, FirstIs, stepsFrom, pixelSteps, tableSteps, walk}
-use Rattle.walk.proofs.Order.{first-append}
+use Rattle.steps.specs.Steps.{Step, term, sum, refusalIn, firstOutside, stepsFrom, AllInside, FirstIs}
+use Rattle.steps.proofs.Meaning.{accepted-inside, inside-accepted}
+use Rattle.walk.specs.Parts.{rowTerm, columnTerm, remainderTerm, wholeSum, ktaTerm, ktaSum}
+use Rattle.walk.specs.Walk.{termSteps, pixelSteps, tableSteps, walk}
+use Rattle.walk.proofs.Walked.{calm-walk, walk-calm}
 
-not-none : (s : Step) → refusalIn s ≡ None → ⊥
-not-none (term t p z) e = let z : _≡_ {A = ℕ} 0 1 = cc in omega arith
-not-none (sum t p z) e = let z : _≡_ {A = ℕ} 0 1 = cc in omega arith
+-- ---- accepted
+pub record TermsInside (w : ℕ → ℕ) (base low p : ℕ) : Type 0 where
+  pub row : in16 (rowTerm w base (p / 32)) ≡ true
+  pub column : in16 (columnTerm w base (p % 32)) ≡ true
+  pub remainder : in16 (remainderTerm w base low p) ≡ true
 
--- ---- accepted exactly where every step is inside
-pub inside-first : (s : Step) (rest : List Step) → firstOutside (s ∷ rest) ≡ None → (in16 (valueIn s) ≡ true) × (firstOutside rest ≡ None)
-unfolding firstOutside
-inside-first s rest e = go (in16 (valueIn s)) refl
+pub record PixelInside (w : ℕ → ℕ) (p : ℕ) : Type 0 where
+  pub offset-terms : TermsInside w 0x10 10 p
+  pub offset : in16 (wholeSum w 0x10 10 p) ≡ true
+  pub alpha-terms : TermsInside w 0x20 4 p
+  pub kta-term : in16 (ktaTerm w p) ≡ true
+  pub kta : in16 (ktaSum w p) ≡ true
+
+pub walk-accepts : (w : ℕ → ℕ) → (firstOutside (walk w) ≡ None) ↔ ((p : ℕ) → p < 768 → PixelInside w p)
+unfolding AllInside pixelSteps termSteps
+walk-accepts w = (to, from)
   where
-    go : (b : Bool) → in16 (valueIn s) ≡ b → (in16 (valueIn s) ≡ true) × (firstOutside rest ≡ None)
-    go true h = (h, sym (ap (λ (b : Bool). cond b (firstOutside rest) (refusalIn s)) h) ∙ e)
-    go false h = absurd (not-none s (sym (ap (λ (b : Bool). cond b (firstOutside rest) (refusalIn s)) h) ∙ e))
+    to : firstOutside (walk w) ≡ None → (p : ℕ) → p < 768 → PixelInside w p
+    to e p h =
+        let o = accepted-inside (pixelSteps w Offset p) (walk-calm w e Offset p h) in
+        let a = accepted-inside (pixelSteps w Alpha p) (walk-calm w e Alpha p h) in
+        let k = accepted-inside (pixelSteps w Kta p) (walk-calm w e Kta p h) in
+        record {
+          offset-terms = record { row = o .0; column = o .1 .0; remainder = o .1 .1 .0 };
+          offset = o .1 .1 .1 .0;
+          alpha-terms = record { row = a .0; column = a .1 .0; remainder = a .1 .1 .0 };
+          kta-term = k .0;
+          kta = k .1 .0;
+        }
 
-pub accepted-inside : (xs : List Step) → firstOutside xs ≡ None → AllInside xs
-unfolding AllInside
-accepted-inside [] e = tt
-accepted-inside (s ∷ xs) e = let h = inside-first s xs e in (h .0, accepted-inside xs (h .1))
+    inside : (t : Table) (p : ℕ) → PixelInside w p → AllInside (pixelSteps w t p)
+    inside Offset p i = let t = i .offset-terms in (t .row, (t .column, (t .remainder, (i .offset, tt))))
+    inside Alpha p i = let t = i .alpha-terms in (t .row, (t .column, (t .remainder, tt)))
+    inside Kta p i = (i .kta-term, (i .kta, tt))
 
-pub inside-accepted : (xs : List Step) → AllInside xs → firstOutside xs ≡ None
-unfolding firstOutside AllInside
-inside-accepted [] a = refl
-inside-accepted (s ∷ xs) a = rw (a .0) (inside-accepted xs (a .1))
+    from : ((p : ℕ) → p < 768 → PixelInside w p) → firstOutside (walk w) ≡ None
+    from i = calm-walk w (λ t p h. inside-accepted (pixelSteps w t p) (inside t p (i p h)))
 
--- ---- refused exactly for the first step outside
-pub first-refused : (xs : List Step) (r : Refusal) → FirstIs xs r → firstOutside xs ≡ r
-unfolding firstOutside AllInside
-first-refused xs r f = ap firstOutside (f .split) ∙ go (f .before) (f .earlier)
-  where
-    go : (before : List Step) → AllInside before → firstOutside (before ++ (f .step ∷ f .after)) ≡ r
-    go [] a = rw (f .outside) (f .refuses)
-    go (s ∷ before) a = rw (a .0) (go before (a .1))
+-- ---- refused for a sum
+module _ (w : ℕ → ℕ) where
+  -- s is the final sum of pixel p; alpha's is never tested
+  unfoldable pub Final : Table → ℕ → Step → Type 0
+  Final Offset p s = s ≡ sum Offset p (wholeSum w 0x10 10 p)
+  Final Alpha p s = ⊥
+  Final Kta p s = s ≡ sum Kta p (ktaSum w p)
 
-one-more : (s : Step) {xs : List Step} {r : Refusal} → in16 (valueIn s) ≡ true → FirstIs xs r → FirstIs (s ∷ xs) r
-unfolding AllInside
-one-more s h f =
-    record {
-      before = s ∷ f .before;
-      step = f .step;
-      after = f .after;
-      split = ap (λ (l : List Step). s ∷ l) (f .split);
-      earlier = (h, f .earlier);
-      outside = f .outside;
-      refuses = f .refuses;
-    }
+  -- a step is a term, or the final sum of the pixel that it names
+  unfoldable Named : Step → Type 0
+  Named (term t p z) = Unit {0}
+  Named (sum t p z) = Final t p (sum t p z)
 
-this-one : (s : Step) (xs : List Step) {r : Refusal} → in16 (valueIn s) ≡ false → refusalIn s ≡ r → FirstIs (s ∷ xs) r
-unfolding AllInside
-this-one s xs h e = record { before = []; step = s; after = xs; split = refl; earlier = tt; outside = h; refuses = e }
+  unfoldable AllNamed : List Step → Type 0
+  AllNamed [] = Unit {0}
+  AllNamed (s ∷ rest) = Named s × AllNamed rest
 
-pub refused-first : (xs : List Step) (r : Refusal) → firstOutside xs ≡ r → (r ≡ None → ⊥) → FirstIs xs r
-unfolding firstOutside
-refused-first [] r e n = absurd (n (sym e))
-refused-first (s ∷ xs) r e n = go (in16 (valueIn s)) refl (λ h. refused-first xs r h n)
-  where
-    taken : (b : Bool) → in16 (valueIn s) ≡ b → cond b (firstOutside xs) (refusalIn s) ≡ r
-    taken b h = sym (ap (λ (b : Bool). cond b (firstOutside xs) (refusalIn s)) h) ∙ e
+  named-joined : (xs ys : List Step) → AllNamed xs → AllNamed ys → AllNamed (xs ++ ys)
+  unfolding AllNamed
+  named-joined [] ys a b = b
+  named-joined (s ∷ xs) ys a b = (a .0, named-joined xs ys (a .1) b)
 
-    go : (b : Bool) → in16 (valueIn s) ≡ b → (firstOutside xs ≡ r → FirstIs xs r) → FirstIs (s ∷ xs) r
-    go true h later = one-more s h (later (taken true h))
-    go false h later = this-one s xs h (taken false h)
+  named-in : (before : List Step) (s : Step) (after : List Step) → AllNamed (before ++ (s ∷ after)) → Named s
+  unfolding AllNamed
+  named-in [] s after a = a .0
+  named-in (x ∷ before) s after a = named-in before s after (a .1)
 
--- ---- by pixels: the walk finds nothing exactly where no pixel of a table has a fault
-both-none : (a b : Refusal) → orElse a b ≡ None → (a ≡ None) × (b ≡ None)
-both-none a b e = go (acceptedBy a) refl
-  where
-    go : (d : Bool) → acceptedBy a ≡ d → (a ≡ None) × (b ≡ None)
-    go true h = (accepted-none a h, sym (ap (λ (d : Bool). cond d b a) h) ∙ e)
-    go false h = let z : a ≡ None = sym (ap (λ (d : Bool). cond d b a) h) ∙ e in absurd (let y : _≡_ {A = Bool} true false = sym (ap acceptedBy z) ∙ h in let z : _≡_ {A = ℕ} 0 1 = cc in omega arith)
+  named-pixel : (t : Table) (p : ℕ) → AllNamed (pixelSteps w t p)
+  unfolding AllNamed Named Final pixelSteps termSteps
+  named-pixel Offset p = (tt, (tt, (tt, (refl, tt))))
+  named-pixel Alpha p = (tt, (tt, (tt, tt)))
+  named-pixel Kta p = (tt, (refl, tt))
 
-pub none-append : (xs ys : List Step) → firstOutside (xs ++ ys) ≡ None → (firstOutside xs ≡ None) × (firstOutside ys ≡ None)
-none-append xs ys e = both-none (firstOutside xs) (firstOutside ys) (sym (first-append xs ys) ∙ e)
+  named-from : (t : Table) (n p : ℕ) → AllNamed (stepsFrom (pixelSteps w t) n p)
+  unfolding AllNamed stepsFrom
+  named-from t zero p = tt
+  named-from t (suc n) p = named-joined (pixelSteps w t p) (stepsFrom (pixelSteps w t) n (p + 1)) (named-pixel t p) (named-from t n (p + 1))
 
-none-joined : (xs ys : List Step) → firstOutside xs ≡ None → firstOutside ys ≡ None → firstOutside (xs ++ ys) ≡ None
-none-joined xs ys e h = first-append xs ys ∙ rw (e, h)
+  named-walk : AllNamed (walk w)
+  unfolding walk tableSteps
+  named-walk =
+      named-joined (tableSteps w Offset) (tableSteps w Alpha ++ tableSteps w Kta) (named-from Offset 768 0)
+      (named-joined (tableSteps w Alpha) (tableSteps w Kta) (named-from Alpha 768 0) (named-from Kta 768 0))
 
-pixel-none : (f : ℕ → List Step) (n p k : ℕ) → firstOutside (stepsFrom f n p) ≡ None → k < n → firstOutside (f (p + k)) ≡ None
-unfolding stepsFrom
-pixel-none f zero p k e h = absurd (not-suc-le-zero h)
-pixel-none f (suc n) p zero e h = rw (add-zero p) (none-append (f p) (stepsFrom f n (p + 1)) e .0)
-pixel-none f (suc n) p (suc k) e h =
-    let m : p + suc k ≡ p + 1 + k = omega arith in
-    rw m (pixel-none f n (p + 1) k (none-append (f p) (stepsFrom f n (p + 1)) e .1) (le-of-suc-le-suc h))
-
-pixels-none : (f : ℕ → List Step) (m n p : ℕ) → p + n ≡ m → ((k : ℕ) → k < m → firstOutside (f k) ≡ None) → firstOutside (stepsFrom f n p) ≡ None
-unfolding stepsFrom firstOutside
-pixels-none f m zero p e h = refl
-pixels-none f m (suc n) p e h = none-joined (f p) (stepsFrom f n (p + 1)) (h p (omega arith)) (pixels-none f m n (p + 1) (omega arith) h)
-
--- no pixel of a table has a fault
-abbrev pub Calm : (ℕ → ℕ) → Table → Type 0
-Calm w t = (p : ℕ) → p < 768 → firstOutside (pixelSteps w t p) ≡ None
-
-pub calm-walk : (w : ℕ → ℕ) → ((t : Table) → Calm w t) → firstOutside (walk w) ≡ None
-unfolding walk tableSteps
-calm-walk w h =
-    none-joined (tableSteps w Offset) (tableSteps w Alpha ++ tableSteps w Kta) (all Offset) (none-joined (tableSteps w Alpha) (tableSteps w Kta) (all Alpha) (all Kta))
-  where
-    all : (t : Table) → firstOutside (stepsFrom (pixelSteps w t) 768 0) ≡ None
-    all t = pixels-none (pixelSteps w t) 768 768 0 refl (h t)
-
-pub walk-calm : (w : ℕ → ℕ) → firstOutside (walk w) ≡ None → (t : Table) → Calm w t
-unfolding walk tableSteps
-walk-calm w e t p h = rw (← zero-add p) (pixel-none (pixelSteps w t) 768 0 p (own t) h)
-  where
-    rest : (firstOutside (tableSteps w Alpha) ≡ None) × (firstOutside (tableSteps w Kta) ≡ None)
-    rest = none-append (tableSteps w Alpha) (tableSteps w Kta) (none-append (tableSteps w Offset) (tableSteps w Alpha ++ tableSteps w Kta) e .1)
-
-    own : (t : Table) → firstOutside (stepsFrom (pixelSteps w t) 768 0) ≡ None
-    own Offset = none-append (tableSteps w Offset) (tableSteps w Alpha ++ tableSteps w Kta) e .0
-    own Alpha = rest .0
-    own Kta = rest .1
+  pub final-sum : (t : Table) (p : ℕ) (f : FirstIs (walk w) (Sum t p)) → Final t p (f .step)
+  unfolding Named
+  final-sum t p f = go (f .step) (f .refuses) (named-in (f .before) (f .step) (f .after) (subst AllNamed (f .split) named-walk))
+    where
+      go : (s : Step) → refusalIn s ≡ Sum t p → Named s → Final t p s
+      go (term u q z) e n = let z : _≡_ {A = ℕ} 0 1 = cc in absurd (omega arith)
+      go (sum u q z) e n =
+          let table : u ≡ t = cc in
+          let pixel : q ≡ p = cc in
+          subst (λ (x : Table). Final x p (sum u q z)) table (subst (λ (y : ℕ). Final u y (sum u q z)) pixel n)
