@@ -1,34 +1,31 @@
 // The three lent tables, written from an image's words in which the walk has found no fault.
-use camera::AVERAGE;
-use camera::COLUMNS;
 use camera::OFFSET_COMPENSATION;
 use camera::PIXEL_CALIBRATION;
-use camera::ROWS;
 use camera::SENSITIVITY_SCALE;
 use camera::V_AND_TA_SCALE;
 use exact::over;
 use exact::up_power;
 use util::i16_from_bits;
 use util::power_of_two;
-use util::sum;
-use util::term;
 use util::u16_from_bits;
-use walk::k_ta_average;
-use walk::nibble_at;
+use walk::column_terms;
+use walk::k_ta_columns;
+use walk::row_sums;
 ghost use mathlib.Core.Path.{_≡_};
 ghost use mathlib.Core.Bool.{true};
 ghost use Prim.Native.Nat.{ℕ, _+_, _*_, _/_, _%_, _^_, _<_, _≤_};
-ghost use lib.IntN.{pos, _*ℤ_};
-ghost use lib.ListN.{length};
+ghost use lib.IntN.{pos, natAbs, _*ℤ_};
+ghost use lib.ListN.{length, getD};
 ghost use Rattle.refusal.specs.declared.Refusal.the-variants.{None};
 ghost use Rattle.exact.specs.Dyadic.{dyadic, twoTo};
 ghost use Rattle.util.specs.Words.{listed, field};
 ghost use Rattle.util.specs.Sums.{in16};
-ghost use Rattle.walk.specs.Parts.{rowSum, columnTerm, ktaAverage};
-ghost use Rattle.walk.specs.Walk.{walk, firstOutside};
+ghost use Rattle.steps.specs.Steps.{firstOutside};
+ghost use Rattle.walk.specs.Walk.{walk};
+ghost use Rattle.walk.specs.Inner.Rows.{rowEntry, Small};
 ghost use Rattle.tables.specs.Tab.{tab, written};
 ghost use Rattle.tables.specs.Entries.{offsetAt, alphaAt, ktaAt};
-ghost use Rattle.tables.specs.Inner.Rows.{rowEntry, PartsFit, TermsFit, EntriesFit, EntriesExact, RowsFit, ColumnsFit};
+ghost use Rattle.tables.specs.Inner.Rows.{TermsFit, EntriesFit};
 
 // f x power.
 fn times(f: i16, power: u16) -> i16
@@ -41,7 +38,7 @@ fn times(f: i16, power: u16) -> i16
 // The whole sum of column c of row r of a table.
 fn row_entry(
     words: &[u16; 832],
-    rows: &[i16; 24],
+    rows: &[i32; 24],
     columns: &[i16; 64],
     low: u32,
     width: u32,
@@ -49,23 +46,24 @@ fn row_entry(
     r: usize,
     c: usize,
 ) -> i32
-    requires { ⌜ (r < 24) × (c < 32) × (power ≤ 32768) × PartsFit (now rows) (now columns) × TermsFit (listed (now words)) low width power ⌝ }
+    requires { ⌜ (r < 24) × (c < 32) × (power ≤ 32768) × Small 24 (now rows) × TermsFit (listed (now words)) low width power ⌝ }
     ensures { λ s. ⌜ s ≡ rowEntry (listed (now (words .entry))) (now (rows .entry)) (now (columns .entry)) low width power r c ⌝ }
+    ensures { λ s. ⌜ natAbs s < 2 ^ 24 ⌝ }
 {
     let own = i16_from_bits(words[PIXEL_CALIBRATION + (32 * r + c)], low, width);
-    sum(rows[r] + columns[32 * (r % 2) + c], times(own, power))
+    rows[r] + (columns[32 * (r % 2) + c] as i32) + (times(own, power) as i32)
 }
 
 // Row r of the offset table.
 fn offset_row(
     words: &[u16; 832],
-    rows: &[i16; 24],
+    rows: &[i32; 24],
     columns: &[i16; 64],
     power: u16,
     r: usize,
     out: &mut [i16],
 )
-    requires { ⌜ (r < 24) × (power ≤ 32768) × (length (now out) ≡ 32) × PartsFit (now rows) (now columns) × TermsFit (listed (now words)) 10 6 power × EntriesFit (listed (now words)) (now rows) (now columns) power ⌝ }
+    requires { ⌜ (r < 24) × (power ≤ 32768) × (length (now out) ≡ 32) × Small 24 (now rows) × TermsFit (listed (now words)) 10 6 power × EntriesFit (listed (now words)) (now rows) (now columns) power ⌝ }
     ensures { λ _. ⌜ now (out .exit) ≡ tab (rowEntry (listed (now (words .entry))) (now (rows .entry)) (now (columns .entry)) 10 6 power r) 32 ⌝ }
 {
     let mut c = 0;
@@ -78,12 +76,12 @@ fn offset_row(
 // The offset table, row by row.
 fn offset_rows(
     words: &[u16; 832],
-    rows: &[i16; 24],
+    rows: &[i32; 24],
     columns: &[i16; 64],
     power: u16,
     out: &mut [i16],
 )
-    requires { ⌜ (power ≤ 32768) × (768 ≤ length (now out)) × PartsFit (now rows) (now columns) × TermsFit (listed (now words)) 10 6 power × EntriesFit (listed (now words)) (now rows) (now columns) power ⌝ }
+    requires { ⌜ (power ≤ 32768) × (768 ≤ length (now out)) × Small 24 (now rows) × TermsFit (listed (now words)) 10 6 power × EntriesFit (listed (now words)) (now rows) (now columns) power ⌝ }
     ensures { λ _. ⌜ now (out .exit) ≡ written (λ p. rowEntry (listed (now (words .entry))) (now (rows .entry)) (now (columns .entry)) 10 6 power (p / 32) (p % 32)) (now (out .entry)) ⌝ }
 {
     let mut r = 0;
@@ -97,7 +95,7 @@ fn offset_rows(
 // Row r of a table of floats: each sum over a power of two that the caller has looked up.
 fn float_row(
     words: &[u16; 832],
-    rows: &[i16; 24],
+    rows: &[i32; 24],
     columns: &[i16; 64],
     low: u32,
     width: u32,
@@ -106,7 +104,7 @@ fn float_row(
     r: usize,
     out: &mut [f32],
 )
-    requires { ⌜ (r < 24) × (power ≤ 32768) × (length (now out) ≡ 32) × PartsFit (now rows) (now columns) × TermsFit (listed (now words)) low width power × EntriesExact (listed (now words)) (now rows) (now columns) low width power ⌝ }
+    requires { ⌜ (r < 24) × (power ≤ 32768) × (length (now out) ≡ 32) × Small 24 (now rows) × TermsFit (listed (now words)) low width power ⌝ }
     ensures { λ _. ⌜ ((k : ℕ) → k ≤ 149 → divisor ≡ twoTo (pos k) → now (out .exit) ≡ tab (λ c. dyadic (rowEntry (listed (now (words .entry))) (now (rows .entry)) (now (columns .entry)) low width power r c) k) 32) ⌝ }
 {
     let mut c = 0;
@@ -122,7 +120,7 @@ fn float_row(
 // A table of floats, row by row: each sum over 2^k.
 fn float_rows(
     words: &[u16; 832],
-    rows: &[i16; 24],
+    rows: &[i32; 24],
     columns: &[i16; 64],
     low: u32,
     width: u32,
@@ -130,7 +128,7 @@ fn float_rows(
     k: usize,
     out: &mut [f32],
 )
-    requires { ⌜ (power ≤ 32768) × (k < 50) × (768 ≤ length (now out)) × PartsFit (now rows) (now columns) × TermsFit (listed (now words)) low width power × EntriesExact (listed (now words)) (now rows) (now columns) low width power ⌝ }
+    requires { ⌜ (power ≤ 32768) × (k < 50) × (768 ≤ length (now out)) × Small 24 (now rows) × TermsFit (listed (now words)) low width power ⌝ }
     ensures { λ _. ⌜ now (out .exit) ≡ written (λ p. dyadic (rowEntry (listed (now (words .entry))) (now (rows .entry)) (now (columns .entry)) low width power (p / 32) (p % 32)) k) (now (out .entry)) ⌝ }
 {
     let divisor = up_power(k);
@@ -152,53 +150,18 @@ fn float_rows(
     }
 }
 
-// The average with each row's term.
-fn row_sums(words: &[u16; 832], base: usize) -> [i16; 24]
-    requires { ⌜ (base ≤ 32) × RowsFit (listed (now words)) base ⌝ }
-    ensures { λ s. ⌜ s ≡ tab (rowSum (listed (now (words .entry))) base) 24 ⌝ }
+// The same numbers in 16 bits, as the loops over a row read them.
+fn narrowed(wide: &[i32; 64]) -> [i16; 64]
+    requires { ⌜ ((i : ℕ) → i < 64 → in16 (getD (now wide) i (pos 0)) ≡ true) ⌝ }
+    ensures { λ s. ⌜ ((i : ℕ) → i < 64 → getD s i (pos 0) ≡ getD (now (wide .entry)) i (pos 0)) ⌝ }
 {
-    let average = i16_from_bits(words[base + AVERAGE], 0, 16);
-    let mut sums = [0; 24];
-    let mut r = 0;
-    while r < 24 {
-        let own = term(nibble_at(words, base + ROWS, r), words[base], 8) as i16;
-        sums[r] = sum(average, own) as i16;
-        r += 1;
-    }
-    sums
-}
-
-// Each column's term, for even rows and again for odd ones.
-fn column_terms(words: &[u16; 832], base: usize) -> [i16; 64]
-    requires { ⌜ (base ≤ 32) × ColumnsFit (listed (now words)) base ⌝ }
-    ensures { λ s. ⌜ s ≡ tab (λ i. columnTerm (listed (now (words .entry))) base (i % 32)) 64 ⌝ }
-{
-    let mut terms = [0; 64];
+    let mut narrow = [0; 64];
     let mut i = 0;
     while i < 64 {
-        terms[i] = term(nibble_at(words, base + COLUMNS, i % 32), words[base], 4) as i16;
+        narrow[i] = wide[i] as i16;
         i += 1;
     }
-    terms
-}
-
-// The Kta averages of the first two rows: every even row has the first, every odd row the second.
-fn k_ta_columns(words: &[u16; 832]) -> [i16; 64]
-    ensures { λ s. ⌜ s ≡ tab (ktaAverage (listed (now (words .entry)))) 64 ⌝ }
-{
-    let order = [
-        k_ta_average(words, 0),
-        k_ta_average(words, 32),
-        k_ta_average(words, 1),
-        k_ta_average(words, 33),
-    ];
-    let mut averages = [0; 64];
-    let mut i = 0;
-    while i < 64 {
-        averages[i] = order[i / 32 + 2 * (i % 2)];
-        i += 1;
-    }
-    averages
+    narrow
 }
 
 // The power of two that the lowest four bits of word n give.
@@ -216,7 +179,8 @@ pub fn fill_offset(words: &[u16; 832], out: &mut [i16])
     ensures { λ _. ⌜ now (out .exit) ≡ written (offsetAt (listed (now (words .entry)))) (now (out .entry)) ⌝ }
 {
     let rows = row_sums(words, OFFSET_COMPENSATION);
-    let columns = column_terms(words, OFFSET_COMPENSATION);
+    let wide = column_terms(words, OFFSET_COMPENSATION);
+    let columns = narrowed(&wide);
     let power = remainder_power(words, OFFSET_COMPENSATION);
     offset_rows(words, &rows, &columns, power, out);
 }
@@ -227,7 +191,8 @@ pub fn fill_alpha(words: &[u16; 832], out: &mut [f32])
     ensures { λ _. ⌜ now (out .exit) ≡ written (alphaAt (listed (now (words .entry)))) (now (out .entry)) ⌝ }
 {
     let rows = row_sums(words, SENSITIVITY_SCALE);
-    let columns = column_terms(words, SENSITIVITY_SCALE);
+    let wide = column_terms(words, SENSITIVITY_SCALE);
+    let columns = narrowed(&wide);
     let power = remainder_power(words, SENSITIVITY_SCALE);
     let k = u16_from_bits(words[SENSITIVITY_SCALE], 12, 4) as usize + 30;
     float_rows(words, &rows, &columns, 4, 6, power, k, out);
@@ -239,7 +204,8 @@ pub fn fill_k_ta(words: &[u16; 832], out: &mut [f32])
     ensures { λ _. ⌜ now (out .exit) ≡ written (ktaAt (listed (now (words .entry)))) (now (out .entry)) ⌝ }
 {
     let rows = [0; 24];
-    let columns = k_ta_columns(words);
+    let wide = k_ta_columns(words);
+    let columns = narrowed(&wide);
     let power = remainder_power(words, V_AND_TA_SCALE);
     let k = u16_from_bits(words[V_AND_TA_SCALE], 4, 4) as usize + 8;
     float_rows(words, &rows, &columns, 1, 3, power, k, out);

@@ -3,7 +3,7 @@
 use native.Mathlib.Omega.{arith}
 use mathlib.Core.Path.{_≡_, refl, _∙_}
 use mathlib.Core.List.{_++_}
-use Prim.Native.Nat.{ℕ, _+_, _-_, _≤_, _<_}
+use Prim.Native.Nat.{ℕ, _-_, _≤_, _<_}
 use lib.ListN.{length, drop, length-set}
 use lib.IntN.{pos}
 use lib.Ieee.{Float, binary32, div, ofInt}
@@ -14,7 +14,7 @@ use Rattle.exact.proofs.Exact.{of-int-over}
 use Rattle.util.specs.Words.{listed}
 use Rattle.util.proofs.Whole.{back32}
 use Rattle.tables.specs.Tab.{tab}
-use Rattle.tables.specs.Inner.Rows.{rowEntry}
+use Rattle.walk.specs.Inner.Rows.{rowEntry}
 use Rattle.tables.proofs.Filled.{tab-none, tab-more, tab-whole}
 use Rattle.tables.proofs.float_row.Statement.{statement}
 use Rattle.tables.proofs.float_row.Tie as tie
@@ -31,15 +31,13 @@ abbrev μ-loop : tie.MeasureT-loop
 entry-is : (c : tie.After-row-entry Inv-loop μ-loop)
     → let s = c .before .before .before .before .args in
     toZ w32 (ofZ w32 (c .row-entry .result)) ≡ rowEntry (listed (s .words .now)) (s .rows .now) (s .columns .now) (s .low) (s .width) (s .power) (s .r) (c .before .before .loop .c)
-entry-is c = back32 (c .row-entry .result) (c .row-entry .ok) ∙ c .row-entry .ensures
+entry-is c = back32 (c .row-entry .result) (c .row-entry .ok) ∙ c .row-entry .ensures .0
 
 row-entry-requires : tie.Need-row-entry-requires Inv-loop μ-loop
 row-entry-requires c κs = let start = c .before .before .before in (start .pre .0, c .loop-test .taken, start .pre .1, start .pre .3, start .pre .4)
 
 over-requires : tie.Need-over-requires Inv-loop μ-loop
-over-requires c κs =
-    let start = c .before .before .before .before in
-    rw (entry-is c) (start .pre .5 (start .args .r) (c .before .before .loop .c) (start .pre .0) (c .before .loop-test .taken))
+over-requires c κs = rw (back32 (c .row-entry .result) (c .row-entry .ok)) (c .row-entry .ensures .1)
 
 loop-again : tie.Need-loop-again Inv-loop μ-loop
 loop-again c =
@@ -51,7 +49,7 @@ loop-again c =
       omega arith,
       λ k h e.
           let f : ℕ → Float = λ m. dyadic (rowEntry (listed (s .words .now)) (s .rows .now) (s .columns .now) (s .low) (s .width) (s .power) (s .r) m) k in
-          let small = start .pre .5 (s .r) n (start .pre .0) (c .before .before .loop-test .taken) in
+          let small = rw (c .before .row-entry .ensures .0) at (c .before .row-entry .ensures .1) in
           let stored : c .over .result ≡ f n =
           c .over .ensures
           ∙ ((λ i. div binary32 (ofInt binary32 (entry-is (c .before) i)) (e i))

@@ -10,7 +10,7 @@ use lib.Ieee.{Float}
 use Rattle.exact.specs.Dyadic.{dyadic}
 use Rattle.util.specs.Words.{listed}
 use Rattle.tables.specs.Tab.{tab}
-use Rattle.tables.specs.Inner.Rows.{rowEntry}
+use Rattle.walk.specs.Inner.Rows.{rowEntry}
 use Rattle.tables.proofs.Filled.{tab-none, put-part, row-place, length-put}
 use Rattle.tables.proofs.float_rows.Statement.{statement}
 use Rattle.tables.proofs.float_rows.Tie as tie
@@ -34,7 +34,7 @@ float-row-requires c κs =
     let at-loop = c .before .before in
     let start = at-loop .before .before .before in
     let r = at-loop .loop .r in
-    (c .before .loop-test .taken, start .pre .0, simp (length-take, length-drop) (omega (arith, long at-loop, c .before .loop-test .taken, start .pre .2)), start .pre .3, start .pre .4, start .pre .5)
+    (c .before .loop-test .taken, start .pre .0, simp (length-take, length-drop) (omega (arith, long at-loop, c .before .loop-test .taken, start .pre .2)), start .pre .3, start .pre .4)
 
 loop-again : tie.Need-loop-again Inv-loop μ-loop
 loop-again c =

@@ -3,7 +3,7 @@
 use native.Mathlib.Omega.{arith}
 use mathlib.Core.Path.{_≡_, refl, _∙_}
 use mathlib.Core.List.{_++_}
-use Prim.Native.Nat.{ℕ, _+_, _-_, _≤_, _<_}
+use Prim.Native.Nat.{ℕ, _-_, _≤_, _<_}
 use lib.ListN.{length, drop, length-set}
 use lib.IntN.{ℤ}
 use mir.Facts.{toZ-ofZ}
@@ -12,7 +12,7 @@ use mir.Val.{SFits, toZ, ofZ}
 use Rattle.util.specs.Words.{listed}
 use Rattle.util.proofs.Whole.{back32, fits-16}
 use Rattle.tables.specs.Tab.{tab}
-use Rattle.tables.specs.Inner.Rows.{rowEntry}
+use Rattle.walk.specs.Inner.Rows.{rowEntry}
 use Rattle.tables.proofs.Filled.{tab-none, tab-more, tab-whole}
 use Rattle.tables.proofs.offset_row.Statement.{statement}
 use Rattle.tables.proofs.offset_row.Tie as tie
@@ -27,7 +27,7 @@ abbrev μ-loop : tie.MeasureT-loop
 entry-is : (c : tie.After-row-entry Inv-loop μ-loop)
     → let s = c .before .before .before .args in
     toZ w32 (ofZ w32 (c .row-entry .result)) ≡ rowEntry (listed (s .words .now)) (s .rows .now) (s .columns .now) 10 6 (s .power) (s .r) (c .before .before .loop .c)
-entry-is c = back32 (c .row-entry .result) (c .row-entry .ok) ∙ c .row-entry .ensures
+entry-is c = back32 (c .row-entry .result) (c .row-entry .ok) ∙ c .row-entry .ensures .0
 
 entry-fits : (c : tie.After-row-entry Inv-loop μ-loop) → SFits w16 (toZ w32 (ofZ w32 (c .row-entry .result)))
 entry-fits c =

@@ -8,7 +8,7 @@ use lib.ListN.{length, drop, length-take, length-drop}
 use lib.IntN.{ℤ}
 use Rattle.util.specs.Words.{listed}
 use Rattle.tables.specs.Tab.{tab}
-use Rattle.tables.specs.Inner.Rows.{rowEntry}
+use Rattle.walk.specs.Inner.Rows.{rowEntry}
 use Rattle.tables.proofs.Filled.{tab-none, put-part, row-place, length-put}
 use Rattle.tables.proofs.offset_rows.Statement.{statement}
 use Rattle.tables.proofs.offset_rows.Tie as tie
