@@ -12,8 +12,9 @@ use lib.ListN.{length}
 use Rattle.refusal.specs.declared.Table.{Table}
 use Rattle.refusal.specs.declared.Refusal.{Refusal}
 use Rattle.refusal.specs.declared.Refusal.the-variants.{None, ImageShort, TableShort, Term, Sum}
-use Rattle.walk.specs.Walk.{walk, firstOutside, AllInside, FirstIs, Step, refusalIn, term, sum}
-use Rattle.walk.proofs.Meaning.{accepted-inside, inside-accepted, first-refused, refused-first}
+use Rattle.steps.specs.Steps.{firstOutside, AllInside, FirstIs, Step, refusalIn, term, sum}
+use Rattle.walk.specs.Walk.{walk}
+use Rattle.steps.proofs.Meaning.{accepted-inside, inside-accepted, first-refused, refused-first}
 use Rattle.eeprom.specs.Image.{imageWords}
 use Rattle.eeprom.specs.Decoding.{refusalOf}
 

@@ -10,7 +10,8 @@ use Rattle.refusal.specs.Code.{acceptedBy}
 use Rattle.refusal.specs.declared.Refusal.{Refusal}
 use Rattle.refusal.specs.declared.Refusal.the-variants.{ImageShort, TableShort}
 use Rattle.record.specs.Fields.{recordOf, blankRecord}
-use Rattle.walk.specs.Walk.{walk, firstOutside}
+use Rattle.steps.specs.Steps.{firstOutside}
+use Rattle.walk.specs.Walk.{walk}
 use Rattle.tables.specs.Tab.{written}
 use Rattle.eeprom.specs.Image.{imageWords}
 use Rattle.eeprom.specs.declared.Decoded.{Decoded}

@@ -7,7 +7,8 @@ use Rattle.refusal.specs.Code.{acceptedBy}
 use Rattle.refusal.proofs.Apart.{accepted-none}
 use Rattle.refusal.specs.declared.Refusal.the-variants.{None}
 use Rattle.util.specs.Words.{listed}
-use Rattle.walk.specs.Walk.{walk, firstOutside}
+use Rattle.steps.specs.Steps.{firstOutside}
+use Rattle.walk.specs.Walk.{walk}
 use Rattle.tables.specs.Entries.{offsetAt, alphaAt, ktaAt}
 use Rattle.eeprom.proofs.Answers.{table-written, table-kept, answer-given, answer-refused}
 use Rattle.eeprom.specs.declared.Decoded.{Decoded}
