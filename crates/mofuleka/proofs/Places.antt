@@ -13,7 +13,8 @@ use Rattle.refusal.specs.declared.Table.the-variants.{Offset, Alpha, Kta}
 use Rattle.refusal.specs.declared.Refusal.{Refusal}
 use Rattle.refusal.specs.declared.Refusal.the-variants.{None, ImageShort, TableShort, SelectorAbove}
 use Rattle.util.specs.Sums.{in16}
-use Rattle.walk.specs.Walk.{Step, term, sum, valueIn, refusalIn, firstOutside, bulkSteps, pixelSteps, stepsFrom, tableSteps, walk}
+use Rattle.steps.specs.Steps.{Step, term, sum, valueIn, refusalIn, firstOutside, stepsFrom}
+use Rattle.walk.specs.Walk.{termSteps, pixelSteps, tableSteps, walk}
 use Rattle.camera.specs.Masks.{maskAnswer}
 use Rattle.camera.specs.Ranges.{rangeCount, rangeAnswer}
 use Rattle.camera.specs.Resolution.{resolutionAnswer}
@@ -97,9 +98,9 @@ below-append n [] ys h k = k
 below-append n (s ∷ xs) ys h k = (h .0, below-append n xs ys (h .1) k)
 
 pixel-below : (n : ℕ) (w : ℕ → ℕ) (t : Table) (p : ℕ) → p < n → AllBelow n (pixelSteps w t p)
-unfolding AllBelow PixelBelow pixelSteps bulkSteps
-pixel-below n w Offset p h = (h, (h, (h, (h, (h, (h, tt))))))
-pixel-below n w Alpha p h = (h, (h, (h, (h, (h, tt)))))
+unfolding AllBelow PixelBelow pixelSteps termSteps
+pixel-below n w Offset p h = (h, (h, (h, (h, tt))))
+pixel-below n w Alpha p h = (h, (h, (h, tt)))
 pixel-below n w Kta p h = (h, (h, tt))
 
 steps-below : (n : ℕ) (f : ℕ → List Step) → ((p : ℕ) → p < n → AllBelow n (f p)) → (k p : ℕ) → p + k ≤ n → AllBelow n (stepsFrom f k p)

@@ -7,7 +7,8 @@ use lib.Dec.{ltb}
 use lib.ListN.{length, drop}
 use Rattle.refusal.specs.declared.Refusal.{Refusal}
 use Rattle.refusal.specs.declared.Refusal.the-variants.{ImageShort, TableShort}
-use Rattle.walk.specs.Walk.{walk, firstOutside}
+use Rattle.steps.specs.Steps.{firstOutside}
+use Rattle.walk.specs.Walk.{walk}
 use Rattle.tables.specs.Tab.{tab}
 use Rattle.tables.specs.Entries.{offsetAt, alphaAt, ktaAt}
 use Rattle.eeprom.specs.Image.{imageWords}

@@ -14,7 +14,8 @@ use Rattle.record.specs.Fields.{recordOf, plusZero, alphaPtat, gradientOf, A, B
 use Rattle.record.specs.Datasheet as D
 use Rattle.record.specs.declared.Optional.the-variants.{Absent}
 use Rattle.walk.specs.Parts.{rowSum, columnSum, wholeSum, ktaSum}
-use Rattle.walk.specs.Walk.{bulkSteps, pixelSteps, stepsFrom, tableSteps, walk, firstOutside}
+use Rattle.steps.specs.Steps.{stepsFrom, firstOutside}
+use Rattle.walk.specs.Walk.{termSteps, pixelSteps, tableSteps, walk}
 use Rattle.tables.specs.Entries.{alphaAt}
 use Rattle.eeprom.specs.Image.{imageWords}
 use Rattle.eeprom.specs.declared.Decoded.{Decoded}
@@ -29,7 +30,7 @@ pub record Differs {X Y : Type 0} (s : List Set) (ours : Decoded → (ℕ → �
 
 -- 0x2410 = 0x1000: 8, and by the datasheet 33 / 4
 pub alpha-ptat-differs : Differs ((0x2410 ≔ 0x1000) ∷ []) (λ d w. d .«record» .«alpha_ptat») (λ EE. float (D.Alpha-PTAT EE)) (float (pos 8 /2^ 0)) (float (pos 33 /2^ 2))
-unfolding setWords walk tableSteps stepsFrom pixelSteps bulkSteps firstOutside rowSum columnSum wholeSum ktaSum in16 recordOf alphaPtat D.Alpha-PTAT dyadic
+unfolding setWords walk tableSteps stepsFrom pixelSteps termSteps firstOutside rowSum columnSum wholeSum ktaSum in16 recordOf alphaPtat D.Alpha-PTAT dyadic
 alpha-ptat-differs =
     let s = (0x2410 ≔ 0x1000) ∷ [] in
     record {
@@ -40,7 +41,7 @@ alpha-ptat-differs =
 
 -- 0x2421 = 0x8000: alpha 0 is -2 ^ 15 / 2 ^ 30, and by the datasheet 2 ^ 15 / 2 ^ 30
 pub alpha-differs : Differs ((0x2421 ≔ 0x8000) ∷ []) (λ d w. alphaAt w 0) (λ EE. float (D.alpha EE 0)) (dyadic (negsuc 32767) 30) (dyadic (pos 32768) 30)
-unfolding setWords walk tableSteps stepsFrom pixelSteps bulkSteps firstOutside rowSum columnSum wholeSum ktaSum in16 recordOf D.alpha
+unfolding setWords walk tableSteps stepsFrom pixelSteps termSteps firstOutside rowSum columnSum wholeSum ktaSum in16 recordOf D.alpha
 alpha-differs =
     let s = (0x2421 ≔ 0x8000) ∷ [] in
     record {
@@ -51,7 +52,7 @@ alpha-differs =
 
 -- zeros: no gradient, and by the datasheet a gradient of zero
 pub gradient-differs : Differs [] (λ d w. d .«record» .«temperature_gradient_coefficient») D.TGC Absent (pos 0 /2^ 5)
-unfolding setWords walk tableSteps stepsFrom pixelSteps bulkSteps firstOutside rowSum columnSum wholeSum ktaSum in16 recordOf gradientOf D.TGC
+unfolding setWords walk tableSteps stepsFrom pixelSteps termSteps firstOutside rowSum columnSum wholeSum ktaSum in16 recordOf gradientOf D.TGC
 gradient-differs = record {
   accepted = ap (λ (d : Decoded). d .refusal) (decoded-set []) ∙ refl;
   answered = ap (λ (d : Decoded). d .«record» .«temperature_gradient_coefficient») (decoded-set []) ∙ refl;
@@ -60,7 +61,7 @@ gradient-differs = record {
 
 -- zeros: the first of the six is -0.0, and the datasheet's correction of pixel 0 is zero
 pub six-differs : Differs [] (λ d w. getD (d .«record» .«interleave_correction_pixels») 0 nan) (λ EE. float (D.correction EE 0)) minusZero plusZero
-unfolding setWords walk tableSteps stepsFrom pixelSteps bulkSteps firstOutside rowSum columnSum wholeSum ktaSum in16 recordOf A B C interleaveSix neg dyadic D.correction D.IL-CHESS-C2 D.IL-CHESS-C3
+unfolding setWords walk tableSteps stepsFrom pixelSteps termSteps firstOutside rowSum columnSum wholeSum ktaSum in16 recordOf A B C interleaveSix neg dyadic D.correction D.IL-CHESS-C2 D.IL-CHESS-C3
 six-differs = record {
   accepted = ap (λ (d : Decoded). d .refusal) (decoded-set []) ∙ refl;
   answered = ap (λ (d : Decoded). getD (d .«record» .«interleave_correction_pixels») 0 nan) (decoded-set []) ∙ refl;

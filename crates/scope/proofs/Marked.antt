@@ -15,7 +15,8 @@ use Rattle.util.specs.Sums.{in16}
 use Rattle.util.specs.Bytes.{bytesOf}
 use Rattle.record.specs.Fields.{recordOf, blankRecord, kVDd, vDd25, corners, gradientOf, A, B, C, interleaveSix, interleaveCp}
 use Rattle.walk.specs.Parts.{rowSum, columnSum, wholeSum, ktaSum}
-use Rattle.walk.specs.Walk.{bulkSteps, pixelSteps, stepsFrom, tableSteps, walk, firstOutside}
+use Rattle.steps.specs.Steps.{stepsFrom, firstOutside}
+use Rattle.walk.specs.Walk.{termSteps, pixelSteps, tableSteps, walk}
 use Rattle.tables.specs.Tab.{tab}
 use Rattle.tables.proofs.Filled.{tab-at, tab-length}
 use Rattle.eeprom.specs.Image.{imageWords}
@@ -67,5 +68,5 @@ map-same f g e [] = refl
 map-same f g e (x ∷ l) = ap₂ _∷_ (e x) (map-same f g e l)
 
 pub marked-readings : map (λ r. answer (r .question)) readings ≡ map (λ r. r .expected) readings
-unfolding readings answer by-words asked setWords refusalOf decodedOf imageWords walk tableSteps stepsFrom pixelSteps bulkSteps firstOutside rowSum columnSum wholeSum ktaSum in16 tab recordOf blankRecord kVDd vDd25 corners gradientOf A B C interleaveSix interleaveCp dyadic neg toBits
+unfolding readings answer by-words asked setWords refusalOf decodedOf imageWords walk tableSteps stepsFrom pixelSteps termSteps firstOutside rowSum columnSum wholeSum ktaSum in16 tab recordOf blankRecord kVDd vDd25 corners gradientOf A B C interleaveSix interleaveCp dyadic neg toBits
 marked-readings = map-same (λ r. answer (r .question)) (λ r. by-words (r .question)) (λ r. same (r .question)) readings ∙ refl
