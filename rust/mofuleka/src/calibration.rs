@@ -72,7 +72,7 @@ impl Calibration {
     /// Decodes an EEPROM image: 832 big-endian words, first address 0x2400. A longer slice is accepted, and its bytes from
     /// 1,664 on are ignored.
     ///
-    /// Refusals: 1 for a short image; 3 and 4 where a term or a running sum leaves 16 bits.
+    /// Refusals: 1 for a short image; 3 and 4 where a term, or the final sum of an offset or of Kta, leaves 16 bits.
     pub fn from_data(image: &[u8]) -> Result<Self, Refusal> {
         Self::filled(|l| lent::from_data(image, &mut l.offset, &mut l.alpha, &mut l.k_ta, &mut l.record))
     }

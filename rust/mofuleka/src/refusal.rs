@@ -13,7 +13,7 @@ use std::fmt;
 /// let refusal = Calibration::from_data(&image).unwrap_err();
 /// assert_eq!((refusal.number(), refusal.table(), refusal.place()), (4, 0, 160));
 /// assert_eq!(refusal.reason(), Reason::SumOutsideRange);
-/// assert_eq!(refusal.to_string(), "offset table, pixel 160: a running sum leaves 16 bits (refusal 4)");
+/// assert_eq!(refusal.to_string(), "offset table, pixel 160: the final sum leaves 16 bits (refusal 4)");
 /// ```
 #[derive(Clone, Copy, Debug, Eq, Hash, PartialEq)]
 pub struct Refusal {
@@ -32,7 +32,7 @@ pub enum Reason {
     ShortSlice,
     /// 3: a scaled term is outside 16 bits; table and pixel are given.
     TermOutsideRange,
-    /// 4: a running sum is outside 16 bits; table and pixel are given.
+    /// 4: the final sum of an offset or of Kta is outside 16 bits; table and pixel are given.
     SumOutsideRange,
     /// 5: the block has under 2 bytes, or not as many as its length field says.
     BlockLength,
@@ -120,7 +120,7 @@ impl fmt::Display for Refusal {
                 write!(f, "{} table, pixel {}: a scaled term is outside 16 bits", self.table_name(), self.place)?
             }
             Reason::SumOutsideRange => {
-                write!(f, "{} table, pixel {}: a running sum leaves 16 bits", self.table_name(), self.place)?
+                write!(f, "{} table, pixel {}: the final sum leaves 16 bits", self.table_name(), self.place)?
             }
             Reason::BlockLength => write!(f, "the block does not have as many bytes as it says")?,
             Reason::BlockCount => write!(f, "the block's length field is below 5, above 131 or even")?,

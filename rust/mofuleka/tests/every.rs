@@ -190,9 +190,54 @@ fn image_refusals() {
     assert_eq!(refusal(&[(0x2410, 0x0F00), (0x2412, 0x0002)]), (3, 0, 0));
     assert_eq!(refusal(&[(0x2411, 0x7FFF), (0x2413, 0x0010)]), (4, 0, 160));
     assert_eq!(refusal(&[(0x2420, 0x00F0), (0x2429, 0x0010)]), (3, 1, 5));
-    assert_eq!(refusal(&[(0x2421, 0x8000), (0x2428, 0xF000)]), (4, 1, 3));
+    assert_eq!(refusal(&[(0x2411, 0x8000), (0x2418, 0xF000)]), (4, 0, 3));
     assert_eq!(refusal(&[(0x2438, 0x000F), (0x2440 + 767, 0x0002)]), (3, 2, 767));
     assert_eq!(refusal(&[(0x2436, 0xFF00), (0x2438, 0x000D), (0x2442, 0x0008)]), (4, 2, 2));
+}
+
+/// Some words that are the same, after the first ones.
+fn and_all(first: &[(usize, u16)], runs: &[(usize, usize, u16)]) -> Vec<(usize, u16)> {
+    let mut words = first.to_vec();
+    for (from, to, word) in runs {
+        words.extend((*from..*to).map(|address| (address, *word)));
+    }
+    words
+}
+
+#[test]
+fn sums_that_come_back() {
+    // Outside with the row, above and below, and back with the column.
+    let above = and_all(&[(0x2411, 0x7FFF)], &[(0x2412, 0x2418, 0x1111), (0x2418, 0x2420, 0xFFFF)]);
+    assert!(calibration(&above).offset_reference_pixels(Subpage::Zero).all(|x| *x == 32767));
+    let below = and_all(&[(0x2411, 0x8000)], &[(0x2412, 0x2418, 0xFFFF), (0x2418, 0x2420, 0x1111)]);
+    assert!(calibration(&below).offset_reference_pixels(Subpage::Zero).all(|x| *x == -32768));
+    // Row 0 is outside until its remainders come in: with them, without the last of them, and with a remainder term that
+    // would bring the sum back but is outside itself.
+    let row_0 = and_all(&[(0x2411, 0x7FFF), (0x2412, 0x0001)], &[(0x2440, 0x2460, 0xFC00)]);
+    assert!(calibration(&row_0).offset_reference_pixels(Subpage::Zero).all(|x| *x == 32767));
+    assert_eq!(refusal(&row_0[..row_0.len() - 1]), (4, 0, 31));
+    assert_eq!(refusal(&[(0x2410, 0x000B), (0x2411, 0x7FFF), (0x2412, 0x0001), (0x2440, 0xBC00)]), (3, 0, 0));
+    // One that stays outside.
+    assert_eq!(refusal(&[(0x2411, 0x7FFF), (0x2413, 0x0010)]), (4, 0, 160));
+    // In a pixel every term comes before the sum.
+    assert_eq!(refusal(&[(0x2410, 0x00F0), (0x2411, 0x7FFF), (0x2412, 1), (0x2418, 1)]), (3, 0, 0));
+    assert_eq!(refusal(&[(0x2410, 0x00F0), (0x2411, 0x7FFF), (0x2412, 1), (0x2418, 0x0010)]), (4, 0, 0));
+}
+
+#[test]
+fn alpha_past_16_bits() {
+    let alpha = |words: &[(usize, u16)], pixel: usize| {
+        calibration(words).alpha_pixels(Subpage::Zero).nth(pixel).copied().unwrap()
+    };
+    let over = |numerator: f32, exponent: i32| numerator / 2f32.powi(exponent);
+    assert_eq!(alpha(&[(0x2421, 0x7FFF), (0x2422, 0x0001)], 0), over(32768.0, 30));
+    assert_eq!(alpha(&[(0x2421, 0x8000), (0x2428, 0xF000)], 3), over(-32769.0, 30));
+    // The largest numerator and the smallest: 32767 + 28672 + 28672 + 31744, and four times -32768.
+    let largest = [(0x2420, 0x0CCA), (0x2421, 0x7FFF), (0x2422, 0x0007), (0x2428, 0x0007), (0x2440, 0x01F0)];
+    assert_eq!(alpha(&largest, 0), over(121855.0, 30));
+    let smallest = [(0x2420, 0xFCCA), (0x2421, 0x8000), (0x2427, 0x8000), (0x242F, 0x8000), (0x273F, 0x0200)];
+    assert_eq!(alpha(&smallest, 767), over(-131072.0, 45));
+    assert_eq!(alpha(&smallest, 766), over(-65536.0, 45));
 }
 
 #[test]
@@ -533,7 +578,7 @@ fn answer_words() {
         let fresh = Gathering::new();
         let bytes = fresh.as_bytes();
         assert_eq!(sys::mofuleka_gathering_status(bytes.as_ptr(), bytes.len()), 832 << 32);
-        let bad = image(&[(0x2421, 0x8000), (0x2428, 0xF000)]);
+        let bad = image(&[(0x2420, 0x00F0), (0x2428, 0x1000)]);
         let mut l = ([0u8; 1536], [0u8; 3072], [0u8; 3072], [0u8; 122]);
         let answer = sys::mofuleka_from_data(
             bad.as_ptr(),
@@ -547,7 +592,7 @@ fn answer_words() {
             l.3.as_mut_ptr(),
             122,
         );
-        assert_eq!(answer, 0x0003_0104);
+        assert_eq!(answer, 0x0003_0103);
     }
 }
 
@@ -556,7 +601,7 @@ fn messages() {
     let text = |words: &[(usize, u16)]| Calibration::from_data(&image(words)).unwrap_err().to_string();
     assert_eq!(
         text(&[(0x2411, 0x7FFF), (0x2413, 0x0010)]),
-        "offset table, pixel 160: a running sum leaves 16 bits (refusal 4)"
+        "offset table, pixel 160: the final sum leaves 16 bits (refusal 4)"
     );
     assert_eq!(
         text(&[(0x2420, 0x00F0), (0x2429, 0x0010)]),
