@@ -357,19 +357,36 @@ static int fourth(const uint8_t *image, unsigned start, unsigned i) {
 
 static int fits(int number) { return number >= -32768 && number <= 32767; }
 
-/* What fails first in one pixel of the offset table (0) or of alpha (1); 0 if nothing does. */
-static unsigned pixel_failure(const uint8_t *image, unsigned table, unsigned pixel) {
+/* What makes up one pixel's sum in the offset table (0) or in alpha (1). */
+struct sum {
+  int average, row, column, remainder;
+};
+
+static struct sum sum_of(const uint8_t *image, unsigned table, unsigned pixel) {
   unsigned start = 0x2410 + 16 * table, scales = word_at(image, start);
-  int row = fourth(image, start + 2, pixel / 32) * (1 << (scales >> 8 & 15));
-  int column = fourth(image, start + 8, pixel % 32) * (1 << (scales >> 4 & 15));
-  int remainder = signed_bits(word_at(image, 0x2440 + pixel), 10 - 6 * table, 6) * (1 << (scales & 15));
-  int sum = signed_bits(word_at(image, start + 1), 0, 16) + row;
-  if (!fits(row)) return MOFULEKA_TERM;
-  if (!fits(sum)) return MOFULEKA_SUM;
-  if (!fits(column)) return MOFULEKA_TERM;
-  if (!fits(sum + column)) return MOFULEKA_SUM;
-  if (!fits(remainder)) return MOFULEKA_TERM;
-  return table == 0 && !fits(sum + column + remainder) ? MOFULEKA_SUM : 0;
+  struct sum s;
+  s.average = signed_bits(word_at(image, start + 1), 0, 16);
+  s.row = fourth(image, start + 2, pixel / 32) * (1 << (scales >> 8 & 15));
+  s.column = fourth(image, start + 8, pixel % 32) * (1 << (scales >> 4 & 15));
+  s.remainder = signed_bits(word_at(image, 0x2440 + pixel), 10 - 6 * table, 6) * (1 << (scales & 15));
+  return s;
+}
+
+/* What fails first in such a pixel; 0 if nothing does. All terms come before the sum, and alpha's sum may be anything. */
+static unsigned pixel_failure(const uint8_t *image, unsigned table, unsigned pixel) {
+  struct sum s = sum_of(image, table, pixel);
+  if (!fits(s.row) || !fits(s.column) || !fits(s.remainder)) return MOFULEKA_TERM;
+  return table == 0 && !fits(s.average + s.row + s.column + s.remainder) ? MOFULEKA_SUM : 0;
+}
+
+/* Whether an offset is outside 16 bits before all its terms are in, which is no failure. */
+static int is_returning(const uint8_t *image) {
+  unsigned pixel;
+  for (pixel = 0; pixel < PIXELS; pixel++) {
+    struct sum s = sum_of(image, 0, pixel);
+    if (!fits(s.average + s.row) || !fits(s.average + s.row + s.column)) return 1;
+  }
+  return 0;
 }
 
 /* The same in one pixel of Kta. */
@@ -381,6 +398,9 @@ static unsigned k_ta_failure(const uint8_t *image, unsigned pixel) {
   return fits(average + remainder) ? 0 : MOFULEKA_SUM;
 }
 
+/* Accepted images with an offset that left 16 bits and came back. */
+static uint64_t returning;
+
 /* The first failure of the walk over a whole image, or that it is accepted. */
 static mofuleka_answer walk(const uint8_t *image) {
   unsigned table, pixel;
@@ -389,6 +409,7 @@ static mofuleka_answer walk(const uint8_t *image) {
       unsigned failure = table < 2 ? pixel_failure(image, table, pixel) : k_ta_failure(image, pixel);
       if (failure != 0) return refusal(failure, table, pixel);
     }
+  returning += is_returning(image);
   return MOFULEKA_ACCEPTED;
 }
 
@@ -833,6 +854,32 @@ static void make_near_limits(uint8_t *image) {
   }
 }
 
+/* Four fields of a row or a column that are zero or this one. */
+static unsigned some_fourths(unsigned field) {
+  unsigned i, word = 0;
+  for (i = 0; i < 4; i++) word = word << 4 | (below(2) == 0 ? field : 0);
+  return word;
+}
+
+/* Rows that bring sums outside 16 bits, above or below, and columns or remainders that bring them back. */
+static void make_returning(uint8_t *image) {
+  unsigned table, i;
+  memset(image, 0, IMAGE_BYTES);
+  noise(image + 96, 32);
+  set_word(image, 0x2438, scales_below(16, 16, 16, 13));
+  for (table = 0; table < 2; table++) {
+    unsigned start = 0x2410 + 16 * table, down = (unsigned)below(2), by_columns = (unsigned)below(2);
+    unsigned scale = (unsigned)below(11), size = 1 + (unsigned)below(7), inside_by = (unsigned)below(size << scale);
+    unsigned back = down ? size : 64 - size;
+    set_word(image, start, (unsigned)below(16) << 12 | scale << 8 | scale << 4 | scale);
+    set_word(image, start + 1, down ? 0x8000 + inside_by : 0x7FFF - inside_by);
+    for (i = 2; i < 8; i++) set_word(image, start + i, some_fourths(down ? 16 - size : size));
+    for (i = 8; by_columns && i < 16; i++) set_word(image, start + i, 0x1111 * (back & 15));
+    for (i = 0x2440; !by_columns && i < 0x2740; i++)
+      set_word(image, i, word_at(image, i) | back << (10 - 6 * table));
+  }
+}
+
 static void make_sparse(uint8_t *image) {
   size_t words;
   memset(image, 0, IMAGE_BYTES);
@@ -866,13 +913,14 @@ static uint8_t lifelike[16][IMAGE_BYTES];
 
 static void make_image(uint8_t *image) {
   uint8_t *one = lifelike[below(16)];
-  size_t kind = calm ? 0 : below(10), damages;
+  size_t kind = calm ? 0 : below(11), damages;
   if (below(64) == 0) make_lifelike(one);
   if (kind < 5) memcpy(image, one, IMAGE_BYTES);
   if (kind == 5) make_tame(image);
   if (kind == 6 || kind == 7) make_near_limits(image);
   if (kind == 8) make_sparse(image);
-  if (kind == 9) noise(image, IMAGE_BYTES);
+  if (kind == 9) make_returning(image);
+  if (kind == 10) noise(image, IMAGE_BYTES);
   if (calm) return;
   for (damages = below(4); damages > 0; damages--)
     if (below(2) == 0)
@@ -1217,7 +1265,9 @@ static int tell_table(double seconds) {
   for (i = 0; i < FUNCTIONS; i++) seen = tell_counts(i, &calls) && seen;
   printf("%llu steps; every length and small number gone through %llu times\n", (unsigned long long)step,
          (unsigned long long)sweep.completed);
-  if (!seen) printf("wrong: a function was not called, or a slice of one not placed both ways\n");
+  printf("%llu accepted images with an offset that left 16 bits and came back\n", (unsigned long long)returning);
+  seen = seen && returning > 0;
+  if (!seen) printf("wrong: a function was not called, a slice of one not placed both ways, or no offset came back\n");
   printf("%llu calls in %.0f seconds, 0 faults, %d wrong\n", (unsigned long long)calls, seconds, !seen);
   return !seen;
 }

@@ -122,12 +122,30 @@ static void decoding(void) {
   fill();
   a = decode(1664);
   CHECK(mofuleka_number(a) == MOFULEKA_SUM && mofuleka_table(a) == 0 && mofuleka_place(a) == 160);
+  CHECK(nothing_written());
   memset(image, 0, sizeof image);
   set(0x2438, 0x000F);
   set(0x273F, 0x0002);
   a = decode(1664);
   CHECK(mofuleka_number(a) == MOFULEKA_TERM && mofuleka_table(a) == 2 && mofuleka_place(a) == 767);
   CHECK(nothing_written());
+}
+
+/* A sum that leaves 16 bits and comes back is accepted, and so is alpha's that stays outside. */
+static void sums(void) {
+  unsigned address;
+  memset(image, 0, sizeof image);
+  set(0x2411, 0x7FFF);
+  for (address = 0x2412; address < 0x2418; address++) set(address, 0x1111);
+  for (address = 0x2418; address < 0x2420; address++) set(address, 0xFFFF);
+  set(0x2421, 0x7FFF);
+  set(0x2422, 0x0001);
+  CHECK(decode(1664) == MOFULEKA_ACCEPTED);
+  CHECK(mofuleka_read_i16(offset) == 32767 && mofuleka_read_i16(offset + 1534) == 32767);
+  CHECK(mofuleka_read_f32(alpha) == 32768.0f / 1073741824.0f);
+  CHECK(mofuleka_read_f32(alpha + 3068) == 32767.0f / 1073741824.0f);
+  set(0x241F, 0x0FFF);
+  CHECK(mofuleka_number(decode(1664)) == MOFULEKA_SUM && mofuleka_place(decode(1664)) == 31);
 }
 
 static void gatherings(void) {
@@ -209,6 +227,7 @@ static void camera(void) {
 int main(void) {
   sizes();
   decoding();
+  sums();
   gatherings();
   camera();
   if (!failed) printf("the C interface answers as declared\n");

@@ -1,5 +1,5 @@
-// Holds the library to a fixed sample of the original crate's answers, which stands on standard input. rust/compare/src/sample.rs has the sample's form, and
-// rust/compare/record-sample makes it.
+// Holds the library to a fixed sample of the original crate's answers, which stands on standard input. Where a sum of alpha wraps in the crate, the sample has the
+// exact number in its place. rust/compare/src/sample.rs has the sample's form, and rust/compare/record-sample makes it.
 use libc::STDIN_FILENO;
 use libc::STDOUT_FILENO;
 use mofuleka::mofuleka_from_data;
@@ -184,7 +184,7 @@ fn main() {
         tally = counted(tally, replay_entry());
         left = left_after(left, tally.ended);
     }
-    say(tally.accepted, b" accepted as the crate has them\n");
+    say(tally.accepted, b" accepted with the recorded numbers\n");
     say(tally.refused, b" refused as the scope has them\n");
     say(tally.compared, b" compared, ");
     say(tally.different, b" different\n");

@@ -8,6 +8,7 @@ use std::time::Instant;
 
 use compare::images;
 use compare::judge::{Judge, Release};
+use compare::model;
 use mlx9064x_release::CalibrationData;
 use mofuleka::{lent, Calibration, Gathering};
 
@@ -86,6 +87,16 @@ impl Own {
     }
 }
 
+/// Whether the extremes of each table are too large to show at a glance that it has no fault: of offset the average and the
+/// largest terms together, of alpha the largest term, of Kta the largest term beside any average.
+fn past_the_bound(image: &[u8]) -> [bool; 3] {
+    let largest = |table: usize, i: usize| model::parts(image, table).map(|parts| parts[i].abs()).max().unwrap();
+    let own = |address: usize, field: i64| field << (images::get(image, address) & 15);
+    let offset = largest(0, 0) + largest(0, 1) + largest(0, 2) + own(0x2410, 32);
+    let alpha = largest(1, 1).max(largest(1, 2)).max(own(0x2420, 32));
+    [offset, alpha, 128 + own(0x2438, 4)].map(|reach| reach > 32767)
+}
+
 /// What a case must answer: accepted with the crate's numbers, or a refusal.
 fn refused(image: &[u8]) -> (u8, u8, usize) {
     match Calibration::from_data(image) {
@@ -143,7 +154,8 @@ fn main() {
     let rounds = env::args().nth(1).and_then(|text| text.parse().ok()).unwrap_or(15);
     let mut sink = 0;
     let lifelike = images::lifelike(1);
-    // Accepted, but with terms that a bound from the extremes of rows, columns and remainders can't clear, in all three tables.
+    // Accepted, but with terms that a bound from the extremes can't clear, in all three tables: row terms of -32768, and of Kta
+    // remainders that could come to that.
     let mut past = lifelike;
     images::set(&mut past, 0x2410, 0x4F10);
     images::set(&mut past, 0x2420, 0x7F16);
@@ -182,6 +194,8 @@ fn main() {
     }
     let word = images::get(&k_ta, 0x273F) | 0x0002;
     images::set(&mut k_ta, 0x273F, word);
+    assert_eq!(past_the_bound(&lifelike), [false; 3]);
+    assert_eq!(past_the_bound(&past), [true; 3]);
     assert_eq!(refused(&lifelike), (0, 0, 0));
     assert_eq!(refused(&past), (0, 0, 0));
     assert_eq!(refused(&first), (3, 0, 0));

@@ -6,6 +6,7 @@ use std::process::{Command, Stdio};
 
 use compare::images::{self, Numbers};
 use compare::judge::{Judge, Release};
+use compare::leaving;
 use compare::model;
 use compare::tally::{Held, Tally};
 
@@ -83,6 +84,7 @@ fn sample(seed: u64) -> Vec<Vec<u8>> {
         sample.push(images::tame(&mut numbers).to_vec());
         sample.push(images::near(&mut numbers).to_vec());
         sample.push(images::sparse(&mut numbers).to_vec());
+        sample.push(leaving::leaving(&mut numbers).to_vec());
         sample.push(images::damaged(&mut numbers));
     }
     sample

@@ -3,9 +3,11 @@
 use std::collections::BTreeSet;
 use std::env;
 use std::fs;
+use std::ops::Range;
 
 use compare::images;
 use compare::judge::{outcome, Checked, Judge, Outcome, Release};
+use compare::model::{self, ALPHA, K_TA, OFFSET};
 use compare::tally::{Held, Tally};
 use mofuleka::{AccessPattern, Calibration, Mlx90640, Refusal, Subpage};
 
@@ -80,11 +82,28 @@ fn ours<T>(answer: Result<T, Refusal>, show: impl FnOnce(T) -> String) -> String
     }
 }
 
+/// The words of an image; three and more that follow each other and are the same stand together.
 fn words(words: &[(usize, u16)]) -> String {
     if words.is_empty() {
         return "zero".to_string();
     }
-    words.iter().map(|(address, word)| format!("{:04X} = {:04X}", address, word)).collect::<Vec<_>>().join(", ")
+    let (mut texts, mut at) = (Vec::new(), 0);
+    while let Some((first, word)) = words.get(at) {
+        let run = words[at..].iter().zip(*first..).take_while(|(next, at)| **next == (*at, *word)).count();
+        if run < 3 {
+            texts.push(format!("{:04X} = {:04X}", first, word));
+            at += 1;
+        } else {
+            texts.push(format!("{:04X}..{:04X} = {:04X}", first, first + run - 1, word));
+            at += run;
+        }
+    }
+    texts.join(", ")
+}
+
+/// Words that are the same, at some addresses that follow each other.
+fn all(addresses: Range<usize>, word: u16) -> Vec<(usize, u16)> {
+    addresses.map(|address| (address, word)).collect()
 }
 
 /// One number of a decoded image, asked of all three.
@@ -172,32 +191,46 @@ impl<J: Judge> Fields for J {
     }
 }
 
-fn offset(set: &[(usize, u16)], pixel: usize, datasheet: i64) -> Row {
+/// What the datasheet adds up for a pixel. It reads alpha's average without a sign (5).
+fn formula(image: &[u8], table: usize, pixel: usize) -> i64 {
+    let [average, row, column, remainder] = model::parts(image, table).nth(pixel).unwrap();
+    let average = if table == ALPHA { average.rem_euclid(65536) } else { average };
+    average + row + column + remainder
+}
+
+/// That over a power of two.
+fn over(numerator: i64, exponent: i64) -> String {
+    number(numerator as f64 / 2f64.powi(exponent as i32))
+}
+
+fn offset(set: &[(usize, u16)], pixel: usize) -> Row {
     field(
         set,
         &format!("offset of pixel {}", pixel),
         |judge| judge.offset(pixel),
-        datasheet.to_string(),
+        formula(&images::with(set), OFFSET, pixel).to_string(),
         |c| c.offset_reference_pixels(Subpage::Zero).nth(pixel).unwrap().to_string(),
     )
 }
 
-fn alpha(set: &[(usize, u16)], pixel: usize, numerator: i64, exponent: i32) -> Row {
+fn alpha(set: &[(usize, u16)], pixel: usize) -> Row {
+    let image = images::with(set);
     field(
         set,
         &format!("alpha of pixel {}", pixel),
         |judge| judge.alpha(pixel),
-        number(numerator as f64 / 2f64.powi(exponent)),
+        over(formula(&image, ALPHA, pixel), model::alpha_scale(&image)),
         |c| number((*c.alpha_pixels(Subpage::Zero).nth(pixel).unwrap()).into()),
     )
 }
 
-fn k_ta(set: &[(usize, u16)], pixel: usize, numerator: i64, exponent: i32) -> Row {
+fn k_ta(set: &[(usize, u16)], pixel: usize) -> Row {
+    let image = images::with(set);
     field(
         set,
         &format!("Kta of pixel {}", pixel),
         |judge| judge.k_ta(pixel),
-        number(numerator as f64 / 2f64.powi(exponent)),
+        over(formula(&image, K_TA, pixel), model::k_ta_scale(&image)),
         |c| number((*c.k_ta_pixels(Subpage::Zero).nth(pixel).unwrap()).into()),
     )
 }
@@ -332,23 +365,44 @@ fn past_the_end() -> Vec<Row> {
 
 fn terms() -> Vec<Row> {
     vec![
-        offset(&[(0x2410, 0x0F00), (0x2412, 0x0001)], 0, 32768),
-        offset(&[(0x2410, 0x0F00), (0x2412, 0x0002)], 0, 65536),
-        offset(&[(0x2410, 0x00F0), (0x2418, 0x0001)], 0, 32768),
-        offset(&[(0x2410, 0x000B), (0x2440, 0x4000)], 0, 32768),
-        alpha(&[(0x2420, 0x0F00), (0x2422, 0x0001)], 0, 32768, 30),
-        alpha(&[(0x2420, 0x000B), (0x2440, 0x0100)], 0, 32768, 30),
-        k_ta(&[(0x2438, 0x000F), (0x2440, 0x0002)], 0, 32768, 8),
+        offset(&[(0x2410, 0x0F00), (0x2412, 0x0001)], 0),
+        offset(&[(0x2410, 0x0F00), (0x2412, 0x0002)], 0),
+        offset(&[(0x2410, 0x00F0), (0x2418, 0x0001)], 0),
+        offset(&[(0x2410, 0x000B), (0x2440, 0x4000)], 0),
+        alpha(&[(0x2420, 0x0F00), (0x2422, 0x0001)], 0),
+        alpha(&[(0x2420, 0x000B), (0x2440, 0x0100)], 0),
+        k_ta(&[(0x2438, 0x000F), (0x2440, 0x0002)], 0),
     ]
 }
 
 fn sums() -> Vec<Row> {
+    let (above, below) = ((0x2411, 0x7FFF), (0x2411, 0x8000));
+    let with = |first: &[(usize, u16)], then: &[Vec<(usize, u16)>]| [first, &then.concat()].concat();
     vec![
-        offset(&[(0x2411, 0x7FFF), (0x2413, 0x0010)], 160, 32768),
-        offset(&[(0x2411, 0x7FFF), (0x2412, 0x0001), (0x2418, 0x000F)], 0, 32767),
-        offset(&[(0x2411, 0x8000), (0x2440, 0xFC00)], 0, -32769),
-        alpha(&[(0x2421, 0x7FFF), (0x2422, 0x0001)], 0, 32768, 30),
-        k_ta(&[(0x2436, 0xFF00), (0x2438, 0x000D), (0x2440, 0x0008)], 0, -32769, 8),
+        offset(&[above, (0x2413, 0x0010)], 160),
+        offset(&[below, (0x2440, 0xFC00)], 0),
+        k_ta(&[(0x2436, 0xFF00), (0x2438, 0x000D), (0x2440, 0x0008)], 0),
+        offset(&with(&[above], &[all(0x2412..0x2418, 0x1111), all(0x2418..0x2420, 0xFFFF)]), 0),
+        offset(&with(&[below], &[all(0x2412..0x2418, 0xFFFF), all(0x2418..0x2420, 0x1111)]), 0),
+        offset(&with(&[above, (0x2412, 0x0001)], &[all(0x2440..0x2460, 0xFC00)]), 0),
+    ]
+}
+
+/// Alpha's sums outside 16 bits: with row and column, below; back with the remainder; as large as can be; and then two in which
+/// the release build is right: back with the column, and outside with the remainder alone. In the last one the average has its
+/// top bit set, too.
+fn alpha_sums() -> Vec<Row> {
+    let outside = [(0x2421, 0x7FFF), (0x2422, 0x0001)];
+    let largest = [(0x2420, 0x0CCA), (0x2421, 0x7FFF), (0x2422, 0x0007), (0x2428, 0x0007), (0x2440, 0x01F0)];
+    let and = |more: (usize, u16)| [&outside[..], &[more]].concat();
+    vec![
+        alpha(&outside, 0),
+        alpha(&[(0x2420, 0x0F00), (0x2422, 0x000F), (0x2428, 0x000F)], 0),
+        alpha(&and((0x2440, 0x03F0)), 0),
+        alpha(&largest, 0),
+        alpha(&and((0x2428, 0x000F)), 0),
+        alpha(&[(0x2421, 0x7FFF), (0x2440, 0x0010)], 0),
+        alpha(&[(0x2421, 0x8000), (0x2422, 0x000F)], 0),
     ]
 }
 
@@ -418,10 +472,7 @@ fn entries() -> Vec<(&'static str, Vec<Row>)> {
         ("2. Terms outside 16 bits", terms()),
         ("3. Sums outside 16 bits", sums()),
         ("4. Alpha_PTAT in whole steps", alpha_ptats.iter().map(|(word, must)| alpha_ptat(*word, *must)).collect()),
-        (
-            "5. The sign of the alpha average",
-            vec![alpha(&[(0x2421, 0x8000)], 0, 32768, 30), alpha(&[(0x2421, 0xFFFF)], 0, 65535, 30)],
-        ),
+        ("5. The sign of the alpha average", vec![alpha(&[(0x2421, 0x8000)], 0), alpha(&[(0x2421, 0xFFFF)], 0)]),
         ("6. The sign of alpha_CP_0", vec![alpha_cp()]),
         ("7. The gradient at zero", vec![gradient(&[], 0.0), gradient(&[(0x243C, 0x00FF)], -1.0 / 32.0)]),
         ("8. Zeros with a sign among the interleave six", signed_zeros()),
@@ -436,6 +487,7 @@ fn entries() -> Vec<(&'static str, Vec<Row>)> {
         ("11. The comment on IL_Pattern", corrected.iter().map(|pixel| comments_form(*pixel)).collect()),
         ("12. Iterators become questions", k_vs.iter().map(|(pixel, must)| k_v(*pixel, *must)).collect()),
         ("13. alpha_correction is left out", vec![alpha_correction()]),
+        ("14. Alpha's sums outside 16 bits", alpha_sums()),
     ]
 }
 

@@ -6,7 +6,9 @@ use mofuleka::{lent, Refusal};
 use crate::guarded::{refused_of, Bench, Depth, Guarded, FULL};
 use crate::images::{self, Numbers};
 use crate::judge::{Judge, Release};
+use crate::leaving;
 use crate::model::{self, refused, Refused};
+use crate::sums;
 use crate::tally::{Held, Tally};
 
 /// A history: what each word was carried with.
@@ -199,9 +201,10 @@ fn any_state(numbers: &mut Numbers) -> [u8; 2496] {
 pub fn storm(tally: &mut Tally, bench: &mut Bench, seed: u64) {
     let mut numbers = Numbers::new(seed);
     let name = || format!("storm of seed {:#x}", seed);
-    let image = match numbers.below(4) {
+    let image = match numbers.below(5) {
         0 => images::tame(&mut numbers),
         1 => images::near(&mut numbers),
+        2 => leaving::leaving(&mut numbers),
         _ => images::lifelike(numbers.next()),
     };
     let long = numbers.below(3) as usize;
@@ -300,7 +303,8 @@ fn decode(tally: &mut Tally, bench: &mut Bench, gathering: &Lent, history: &Hist
     if ours.is_ok() && expected.is_ok() {
         tally.accepted();
         let judge = Release::decode(&image).answer().expect("the original crate takes an accepted image");
-        bench.compare(tally, Held::Crate, &judge, Depth { questions: true, cross: false }, name);
+        let depth = Depth { questions: true, cross: false };
+        bench.compare(tally, Held::Crate, &judge, &sums::wrapped(&image), depth, name);
     }
     // Short tables come after 9 and 10, before 3 and 4.
     let short = [1535, 3072, 3072, 122];

@@ -3,7 +3,8 @@ use mofuleka::{lent, Refusal};
 
 use crate::judge::{Checked, Judge, Outcome, Release};
 use crate::model::{self, Decoded, Refused};
-use crate::tally::{Held, Tally};
+use crate::sums::{self, Wrapped};
+use crate::tally::{Doings, Held, Tally};
 
 const GUARD: usize = 64;
 
@@ -95,6 +96,34 @@ fn bits(bytes: &[u8]) -> impl Iterator<Item = u32> + '_ {
     bytes.chunks_exact(4).map(|b| u32::from_be_bytes([b[0], b[1], b[2], b[3]]))
 }
 
+/// A table's entries with their pixels: those where the crate's sum wraps, or all the others.
+fn entries<'a>(
+    bits: impl Iterator<Item = u32> + 'a,
+    wrapped: &'a [Wrapped],
+    wraps: bool,
+) -> impl Iterator<Item = (usize, u32)> + 'a {
+    bits.enumerate().filter(move |(pixel, _)| wrapped.binary_search_by_key(pixel, |w| w.pixel).is_ok() == wraps)
+}
+
+fn bits_of(table: &[f32]) -> impl Iterator<Item = u32> + '_ {
+    table.iter().map(|x| x.to_bits())
+}
+
+/// Compares alpha: where the crate's sum wraps with the model, in all other pixels with the crate.
+fn compare_alpha(
+    tally: &mut Tally,
+    held: Held,
+    ours: &[u8],
+    of_crate: &[f32],
+    wrapped: &[Wrapped],
+    name: &dyn Fn() -> String,
+) {
+    let name = |_| format!("{}: alpha, pixel and bits", name());
+    tally.list(held, name, entries(bits(ours), wrapped, false), entries(bits_of(of_crate), wrapped, false));
+    let exact = wrapped.iter().map(|w| (w.pixel, w.exact.to_bits()));
+    tally.list(Held::Wide, name, entries(bits(ours), wrapped, true), exact);
+}
+
 /// How thoroughly an image is compared besides its record and tables.
 #[derive(Clone, Copy)]
 pub struct Depth {
@@ -167,12 +196,13 @@ impl Bench {
         answer
     }
 
-    /// Compares what was last decoded with one judge's record and tables.
+    /// Compares what was last decoded with one judge's record and tables, but for alpha in the pixels where its sum wraps.
     pub fn compare<J: Judge>(
         &mut self,
         tally: &mut Tally,
         held: Held,
         judge: &J,
+        wrapped: &[Wrapped],
         depth: Depth,
         name: &dyn Fn() -> String,
     ) {
@@ -180,15 +210,9 @@ impl Bench {
         compare_records(tally, held, record.slice(), &judge.record(), name);
         let ours = offset.slice()[..FULL[0]].chunks_exact(2).map(|b| i16::from_be_bytes([b[0], b[1]]));
         tally.list(held, |pixel| format!("{}: offset {}", name(), pixel), ours, judge.offset().iter().copied());
-        for (which, slice, table) in [("alpha", alpha, judge.alpha()), ("Kta", k_ta, judge.k_ta())] {
-            let ours = bits(&slice.slice()[..FULL[1]]);
-            tally.list(
-                held,
-                |pixel| format!("{}: {} {}", name(), which, pixel),
-                ours,
-                table.iter().map(|x| x.to_bits()),
-            );
-        }
+        compare_alpha(tally, held, &alpha.slice()[..FULL[1]], judge.alpha(), wrapped, name);
+        let ours = bits(&k_ta.slice()[..FULL[2]]);
+        tally.list(held, |pixel| format!("{}: Kta {}", name(), pixel), ours, bits_of(judge.k_ta()));
         if depth.questions {
             self.questions(tally, held, judge, name);
         }
@@ -230,53 +254,95 @@ impl Bench {
         if ours != expected {
             return;
         }
+        sums::count(tally, image, expected);
         match expected {
             Ok(()) => self.accepted(tally, image, depth, name),
-            Err(refused) => count_refused(tally, image, refused),
+            Err(refused) => {
+                let doings = tally.refusals.entry(refused.number).or_default();
+                count_doings(doings, &Release::decode(image), &Checked::decode(image));
+            }
         }
     }
 
     /// An image that was decoded just now, and had to be accepted.
     fn accepted(&mut self, tally: &mut Tally, image: &[u8], depth: Depth, name: &dyn Fn() -> String) {
         tally.accepted();
-        let judge = match Release::decode(image).answer() {
-            Some(judge) => judge,
+        let release = Release::decode(image);
+        let overflows = sums::overflows(image);
+        if overflows || depth.cross {
+            let checked = Checked::decode(image);
+            if overflows {
+                count_doings(&mut tally.overflows, &release, &checked);
+            }
+            self.accepted_checked(tally, checked, overflows, depth, name);
+        }
+        let release = match release.answer() {
+            Some(release) => release,
             None => {
                 tally.different(Held::Crate, || format!("{}: accepted, but not by the original crate", name()));
                 return;
             }
         };
-        self.compare(tally, Held::Crate, &judge, depth, name);
+        let wrapped = sums::wrapped(image);
+        self.compare(tally, Held::Crate, &release, &wrapped, depth, name);
+        compare_wrapped(tally, &wrapped, release.alpha(), name);
         if depth.cross {
-            match Checked::decode(image).answer() {
-                Some(checked) => self.compare(tally, Held::Checked, &checked, depth, name),
-                None => tally.different(Held::Checked, || format!("{}: no answer with overflow checks", name())),
-            }
-            compare_judges(tally, &model::decode(image).expect("accepted above"), &judge, name);
+            let model = model::decode(image).expect("accepted above");
+            compare_judges(tally, &model, &release, &wrapped, name);
+        }
+    }
+
+    /// The same image in the crate with overflow checks. It panics where a sum that it makes in 16 bits is outside, and there
+    /// alone; elsewhere it must have every number, too.
+    fn accepted_checked(
+        &mut self,
+        tally: &mut Tally,
+        checked: Outcome<Checked>,
+        overflows: bool,
+        depth: Depth,
+        name: &dyn Fn() -> String,
+    ) {
+        let panics = matches!(checked, Outcome::Panic(_));
+        tally.same(Held::Judges, || format!("{}: panics with overflow checks", name()), panics, overflows);
+        match checked.answer() {
+            Some(checked) => self.compare(tally, Held::Checked, &checked, &[], depth, name),
+            None if overflows => {}
+            None => tally.different(Held::Checked, || format!("{}: no answer with overflow checks", name())),
         }
     }
 }
 
-/// Holds the model's numbers to the original crate's, so that its refusals can be believed.
-fn compare_judges<J: Judge>(tally: &mut Tally, model: &Decoded, judge: &J, name: &dyn Fn() -> String) {
+/// Holds what the crate's release build has where alpha's sum wraps to what it must be.
+fn compare_wrapped(tally: &mut Tally, wrapped: &[Wrapped], of_crate: &[f32], name: &dyn Fn() -> String) {
+    let expected = wrapped.iter().map(|w| (w.pixel, w.of_crate.to_bits()));
+    let theirs = wrapped.iter().map(|w| (w.pixel, of_crate[w.pixel].to_bits()));
+    tally.list(Held::Judges, |_| format!("{}: alpha of the crate, pixel and bits", name()), theirs, expected);
+}
+
+/// Holds the model's numbers to the original crate's, so that it can be believed where the crate has none.
+fn compare_judges<J: Judge>(
+    tally: &mut Tally,
+    model: &Decoded,
+    judge: &J,
+    wrapped: &[Wrapped],
+    name: &dyn Fn() -> String,
+) {
     let held = Held::Judges;
     compare_records(tally, held, &model.record, &judge.record(), name);
     let (ours, expected) = (model.offset.iter(), judge.offset().iter());
     tally.list(held, |pixel| format!("{}: the model's offset {}", name(), pixel), ours, expected);
-    for (which, ours, expected) in [("alpha", &model.alpha, judge.alpha()), ("Kta", &model.k_ta, judge.k_ta())] {
-        let (ours, expected) = (ours.iter().map(|x| x.to_bits()), expected.iter().map(|x| x.to_bits()));
-        tally.list(held, |pixel| format!("{}: the model's {} {}", name(), which, pixel), ours, expected);
-    }
+    let (ours, expected) = (bits_of(&model.alpha), bits_of(judge.alpha()));
+    let (ours, expected) = (entries(ours, wrapped, false), entries(expected, wrapped, false));
+    tally.list(held, |_| format!("{}: the model's alpha, pixel and bits", name()), ours, expected);
+    let (ours, expected) = (bits_of(&model.k_ta), bits_of(judge.k_ta()));
+    tally.list(held, |pixel| format!("{}: the model's Kta {}", name(), pixel), ours, expected);
 }
 
-/// Counts what the original crate does with an image that is refused here.
-fn count_refused(tally: &mut Tally, image: &[u8], refused: Refused) {
-    let release = Release::decode(image);
-    let checked = Checked::decode(image);
-    let refusals = tally.refusals.entry(refused.number).or_default();
-    refusals.seen += 1;
-    refusals.release[place_of(&release)] += 1;
-    refusals.checked[place_of(&checked)] += 1;
+/// Counts what the original crate's two builds do with an image.
+fn count_doings(doings: &mut Doings, release: &Outcome<Release>, checked: &Outcome<Checked>) {
+    doings.seen += 1;
+    doings.release[place_of(release)] += 1;
+    doings.checked[place_of(checked)] += 1;
 }
 
 fn place_of<T>(outcome: &Outcome<T>) -> usize {

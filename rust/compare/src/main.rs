@@ -13,7 +13,7 @@ use std::time::Instant;
 
 use compare::guarded::Bench;
 use compare::tally::{Held, Tally};
-use compare::{judge, report};
+use compare::{judge, report, sums};
 
 use crate::parts::{Job, Plan};
 
@@ -121,6 +121,7 @@ fn main() {
     viewer::run(&mut tally, plan.seed);
     differences::run(&mut tally, false);
     recorded::run(&mut tally);
+    sums::require_all(&mut tally);
     report::print(&tally);
     println!("{:.1} s", start.elapsed().as_secs_f64());
     println!("{}", report::last_line(&tally));

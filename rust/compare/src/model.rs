@@ -1,6 +1,7 @@
 //! A model of the rules: what must be answered, in wide integers and the plainest form. It shares nothing with the library.
 //!
-//! It decides which refusal must come, and is itself compared with the original crate on every kind of accepted image.
+//! It decides which refusal must come, and what alpha is where the original crate's sum wraps (`sums`). It is itself compared
+//! with the original crate on every kind of accepted image.
 
 pub const WORDS: usize = 832;
 pub const PIXELS: usize = 768;
@@ -48,7 +49,8 @@ fn signed(number: i64, high: u32, low: u32) -> i64 {
     }
 }
 
-fn fits(number: i64) -> bool {
+/// Whether a number is inside 16 bits.
+pub fn fits(number: i64) -> bool {
     (-32768..=32767).contains(&number)
 }
 
@@ -69,16 +71,30 @@ fn fourth(image: &[u8], start: usize, i: usize) -> i64 {
     signed(word(image, start + i / 4), low + 3, low)
 }
 
-/// One of the two layouts that start at 0x2410 and at 0x2420.
-pub struct Bulk {
-    pub extra: i64,
-    pub average: i64,
-    pub rows: [i64; 24],
-    pub columns: [i64; 32],
-    pub remainder_scale: i64,
+/// The chessboard order's number of a pixel.
+pub fn chess(pixel: usize) -> usize {
+    let (row, column) = (pixel / 32, pixel % 32);
+    row % 2 + 2 * (column % 2)
 }
 
-pub fn bulk(image: &[u8], start: usize) -> Bulk {
+/// The tables, by their numbers in a refusal.
+pub const OFFSET: usize = 0;
+pub const ALPHA: usize = 1;
+pub const K_TA: usize = 2;
+
+/// What a table adds up.
+struct Table {
+    /// In chessboard order.
+    averages: [i64; 4],
+    rows: [i64; 24],
+    columns: [i64; 32],
+    /// The highest and the lowest bit of a pixel's remainder.
+    remainder: (u32, u32),
+    remainder_scale: i64,
+}
+
+/// The offset table or alpha, which are laid out alike, from this address on.
+fn laid_out(image: &[u8], start: usize, remainder: (u32, u32)) -> Table {
     let scales = word(image, start);
     let row_scale = field(scales, 11, 8);
     let column_scale = field(scales, 7, 4);
@@ -90,79 +106,48 @@ pub fn bulk(image: &[u8], start: usize) -> Bulk {
     for (i, column) in columns.iter_mut().enumerate() {
         *column = fourth(image, start + 8, i) << column_scale;
     }
-    Bulk {
-        extra: field(scales, 15, 12),
-        average: signed(word(image, start + 1), 15, 0),
-        rows,
-        columns,
-        remainder_scale: field(scales, 3, 0),
-    }
+    let averages = [signed(word(image, start + 1), 15, 0); 4];
+    Table { averages, rows, columns, remainder, remainder_scale: field(scales, 3, 0) }
 }
 
-/// The chessboard order's number of a pixel.
-pub fn chess(pixel: usize) -> usize {
-    let (row, column) = (pixel / 32, pixel % 32);
-    row % 2 + 2 * (column % 2)
+/// Kta, which has no rows and no columns.
+fn k_ta(image: &[u8]) -> Table {
+    let (first, second) = (word(image, 0x2436), word(image, 0x2437));
+    let averages = [signed(first, 15, 8), signed(first, 7, 0), signed(second, 15, 8), signed(second, 7, 0)];
+    let remainder_scale = field(word(image, 0x2438), 3, 0);
+    Table { averages, rows: [0; 24], columns: [0; 32], remainder: (3, 1), remainder_scale }
 }
 
-/// Kta's average of a pixel.
-fn k_ta_average(image: &[u8], pixel: usize) -> i64 {
-    let w = word(image, 0x2436 + chess(pixel) / 2);
-    if chess(pixel) % 2 == 0 {
-        signed(w, 15, 8)
-    } else {
-        signed(w, 7, 0)
-    }
+/// What each pixel of a table adds up, in the order of the pixels: its average, its row term, its column term and its
+/// remainder term. The image has at least 1,664 bytes.
+pub fn parts(image: &[u8], table: usize) -> impl Iterator<Item = [i64; 4]> + '_ {
+    let t = match table {
+        OFFSET => laid_out(image, 0x2410, (15, 10)),
+        ALPHA => laid_out(image, 0x2420, (9, 4)),
+        _ => k_ta(image),
+    };
+    (0..PIXELS).map(move |pixel| {
+        let remainder = signed(word(image, 0x2440 + pixel), t.remainder.0, t.remainder.1);
+        [t.averages[chess(pixel)], t.rows[pixel / 32], t.columns[pixel % 32], remainder << t.remainder_scale]
+    })
 }
 
-/// The numerators of the three tables, or the first failure of the walk. The image has at least 1,664 bytes.
+/// The numerators of the three tables, or the first failure of the walk: in each pixel first all terms, then, but for alpha,
+/// the sum. The image has at least 1,664 bytes.
 pub fn walk(image: &[u8]) -> Result<[[i64; PIXELS]; 3], Refused> {
     let mut tables = [[0; PIXELS]; 3];
-    for table in 0..2 {
-        let b = bulk(image, 0x2410 + 16 * table);
-        let remainder_high = 15 - 6 * table as u32;
-        for pixel in 0..PIXELS {
+    for table in [OFFSET, ALPHA, K_TA] {
+        for (pixel, [average, row, column, remainder]) in parts(image, table).enumerate() {
             let fail = |number| Err(Refused { number, table: table as u8, place: pixel as u64 });
-            let row = b.rows[pixel / 32];
-            if !fits(row) {
+            if !fits(row) || !fits(column) || !fits(remainder) {
                 return fail(3);
             }
-            let sum = b.average + row;
-            if !fits(sum) {
-                return fail(4);
-            }
-            let column = b.columns[pixel % 32];
-            if !fits(column) {
-                return fail(3);
-            }
-            let sum = sum + column;
-            if !fits(sum) {
-                return fail(4);
-            }
-            let w = word(image, 0x2440 + pixel);
-            let remainder = signed(w, remainder_high, remainder_high - 5) << b.remainder_scale;
-            if !fits(remainder) {
-                return fail(3);
-            }
-            let sum = sum + remainder;
-            if table == 0 && !fits(sum) {
+            let sum = average + row + column + remainder;
+            if table != ALPHA && !fits(sum) {
                 return fail(4);
             }
             tables[table][pixel] = sum;
         }
-    }
-    let scale_2 = field(word(image, 0x2438), 3, 0);
-    for pixel in 0..PIXELS {
-        let fail = |number| Err(Refused { number, table: 2, place: pixel as u64 });
-        let remainder = signed(word(image, 0x2440 + pixel), 3, 1) << scale_2;
-        if !fits(remainder) {
-            return fail(3);
-        }
-        let sum = k_ta_average(image, pixel) + remainder;
-        if !fits(sum) {
-            return fail(4);
-        }
-        tables[2][pixel] = sum;
     }
     Ok(tables)
 }
@@ -247,17 +232,25 @@ pub fn record(image: &[u8]) -> [u8; 122] {
     r.record
 }
 
+/// What alpha's numerators are over, as a power of two.
+pub fn alpha_scale(image: &[u8]) -> i64 {
+    field(word(image, 0x2420), 15, 12) + 30
+}
+
+/// The same of Kta's.
+pub fn k_ta_scale(image: &[u8]) -> i64 {
+    field(word(image, 0x2438), 7, 4) + 8
+}
+
 /// All of an accepted image.
 pub fn decode(image: &[u8]) -> Result<Decoded, Refused> {
     let tables = verdict(image)?;
-    let alpha_scale = field(word(image, 0x2420), 15, 12) + 30;
-    let k_ta_scale = field(word(image, 0x2438), 7, 4) + 8;
     let mut decoded =
         Decoded { record: record(image), offset: [0; PIXELS], alpha: [0.0; PIXELS], k_ta: [0.0; PIXELS] };
     for pixel in 0..PIXELS {
         decoded.offset[pixel] = tables[0][pixel] as i16;
-        decoded.alpha[pixel] = over(tables[1][pixel], alpha_scale);
-        decoded.k_ta[pixel] = over(tables[2][pixel], k_ta_scale);
+        decoded.alpha[pixel] = over(tables[1][pixel], alpha_scale(image));
+        decoded.k_ta[pixel] = over(tables[2][pixel], k_ta_scale(image));
     }
     Ok(decoded)
 }

@@ -2,6 +2,7 @@
 use compare::gatherings;
 use compare::guarded::{Bench, Depth, FULL};
 use compare::images::{self, Image, Numbers};
+use compare::leaving;
 use compare::tally::{Held, Tally};
 
 use crate::questions;
@@ -34,6 +35,7 @@ pub fn jobs(plan: Plan) -> Vec<Job> {
     every_word(plan, &mut jobs);
     pixel_words(plan, &mut jobs);
     random(plan, &mut jobs);
+    leaving(plan, &mut jobs);
     let seed = plan.seed;
     jobs.push(Box::new(move |tally, bench| lengths(tally, bench, seed)));
     jobs.push(Box::new(move |tally, bench| unread(tally, bench, seed)));
@@ -107,8 +109,9 @@ const RANDOM: [(&str, fn(&mut Numbers) -> Vec<u8>); 5] = [
     ("damaged copies", images::damaged),
 ];
 
+const CHUNK: u64 = 1000;
+
 fn random(plan: Plan, jobs: &mut Vec<Job>) {
-    const CHUNK: u64 = 1000;
     for (number, (part, make)) in RANDOM.iter().enumerate() {
         for first in (0..plan.count).step_by(CHUNK as usize) {
             let last = plan.count.min(first + CHUNK);
@@ -122,6 +125,23 @@ fn random(plan: Plan, jobs: &mut Vec<Job>) {
                 }
             }));
         }
+    }
+}
+
+/// Sums that leave 16 bits, in every pair of ways in turn, however few random images there are.
+fn leaving(plan: Plan, jobs: &mut Vec<Job>) {
+    let count = plan.count.max(leaving::PAIRS);
+    for first in (0..count).step_by(CHUNK as usize) {
+        let last = count.min(first + CHUNK);
+        jobs.push(Box::new(move |tally, bench| {
+            tally.part("random, sums leaving 16 bits");
+            for i in first..last {
+                let seed = plan.seed ^ (0x5C << 48) ^ i;
+                let image = leaving::in_turn(&mut Numbers::new(seed), i);
+                let depth = Depth { questions: i % 4 == 0, cross: i % 8 == 0 };
+                bench.image(tally, &image, depth, &|| format!("seed {:#x}, pair {}", seed, i % leaving::PAIRS));
+            }
+        }));
     }
 }
 

@@ -1,4 +1,5 @@
-//! record-sample FILE: writes the fixed sample of the original crate's answers; `compare::sample` has the file's form.
+//! record-sample FILE: writes the fixed sample of the original crate's answers; `compare::sample` has the file's form, and says
+//! where an answer is the model's.
 use std::collections::BTreeMap;
 use std::env;
 use std::fs;
@@ -7,6 +8,7 @@ use std::process::exit;
 use compare::judge;
 use compare::model;
 use compare::sample;
+use compare::sums;
 
 /// What must be recorded of images with two faults is written beside them; the model has to say the same.
 fn unexpected() -> Vec<String> {
@@ -38,7 +40,8 @@ fn main() {
     let mut verdicts = BTreeMap::new();
     for image in sample::images() {
         let key = match model::verdict(&image) {
-            Ok(_) => "accepted".to_string(),
+            Ok(_) if sums::wrapped(&image).is_empty() => "accepted, all of it the crate's".to_string(),
+            Ok(_) => "accepted, with some of the model's alpha".to_string(),
             Err(refused) => format!("refusal {}, table {}", refused.number, refused.table),
         };
         *verdicts.entry(key).or_insert(0) += 1;

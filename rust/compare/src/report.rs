@@ -1,7 +1,8 @@
 //! The tally in words: a table by what was held to what, one by parts, and a last line that sums up.
 use std::iter::once;
 
-use crate::tally::{distinct, Count, Held, Part, Tally};
+use crate::sums::Way;
+use crate::tally::{distinct, Count, Doings, Held, Part, Tally};
 
 /// A number with its digits in groups of three.
 fn grouped(number: u64) -> String {
@@ -77,15 +78,38 @@ fn by_part(tally: &Tally) {
 
 fn by_refusal(tally: &Tally) {
     let line = |cells: [String; 8]| {
-        let [number, images, a, b, c, d, e, f] = cells;
-        println!("{:<8} {:>10}   {:>10} {:>10} {:>10}   {:>10} {:>10} {:>10}", number, images, a, b, c, d, e, f);
+        let [kind, images, a, b, c, d, e, f] = cells;
+        println!("{:<22} {:>10}   {:>10} {:>10} {:>10}   {:>10} {:>10} {:>10}", kind, images, a, b, c, d, e, f);
     };
-    println!("What the original crate does with the images that are refused here:");
-    line(["refusal", "images", "release:", "", "", "overflow", "checks:", ""].map(String::from));
+    let doings_line = |kind: String, doings: &Doings| {
+        let ([a, b, c], [d, e, f]) = (doings.release.map(grouped), doings.checked.map(grouped));
+        line([kind, grouped(doings.seen), a, b, c, d, e, f]);
+    };
+    println!("What the original crate does with the images that are refused here, and with those that are accepted");
+    println!("although one of the sums that it makes in 16 bits leaves them:");
+    line(["", "images", "release:", "", "", "overflow", "checks:", ""].map(String::from));
     line(["", "", "answers", "error", "panics", "answers", "error", "panics"].map(String::from));
-    for (number, refusals) in &tally.refusals {
-        let ([a, b, c], [d, e, f]) = (refusals.release.map(grouped), refusals.checked.map(grouped));
-        line([number.to_string(), grouped(refusals.seen), a, b, c, d, e, f]);
+    for (number, doings) in &tally.refusals {
+        doings_line(format!("refusal {}", number), doings);
+    }
+    doings_line("accepted, a sum leaves".to_string(), &tally.overflows);
+}
+
+/// The ways out of 16 bits, one to a line.
+fn by_way(tally: &Tally) {
+    let line = |cells: [String; 5]| {
+        let [place, a, b, c, d] = cells;
+        println!("{:<46} {:>14} {:>14} {:>14} {:>14}", place, a, b, c, d);
+    };
+    println!("Sums outside 16 bits, by where they are; none of these counts may be zero. Counted are all pixels of");
+    println!("accepted images, and of images refused with 4 the pixel that is named, outside at its end:");
+    line(["outside", "offset: above", "below", "alpha: above", "below"].map(String::from));
+    for number in 0..Way::COUNT / 2 {
+        let [above, below] = [number, number + Way::COUNT / 2];
+        let [offset, alpha] = tally.ways;
+        let counts = [offset[above], offset[below], alpha[above], alpha[below]];
+        let [a, b, c, d] = counts.map(grouped);
+        line([Way::of_number(number).place().to_string(), a, b, c, d]);
     }
 }
 
@@ -113,6 +137,8 @@ pub fn print(tally: &Tally) {
     by_part(tally);
     println!();
     by_refusal(tally);
+    println!();
+    by_way(tally);
     print_shown(tally);
 }
 

@@ -20,11 +20,14 @@
 //! | 3072 | the alpha table |
 //! | 3072 | the Kta table |
 //!
-//! as docs/INTERFACE.md lays them out. What accepted images get is the original crate's answer, release build; which images
-//! are refused, and how, is the model's.
+//! as docs/INTERFACE.md lays them out. What accepted images get is the original crate's answer, release build, but for alpha
+//! in the pixels where the crate's 16-bit sum wraps (`sums`): there it is the model's. Which images are refused, and how, is
+//! the model's, too.
 use crate::images::{self, Image, Numbers};
 use crate::judge::{Judge, Release};
+use crate::leaving;
 use crate::model;
+use crate::sums;
 pub use crate::two_faults::two_faults;
 
 fn of(words: &[(usize, u16)]) -> (Image, usize) {
@@ -54,6 +57,14 @@ fn accepted(make: fn(&mut Numbers) -> Image, from: u64) -> (Image, usize) {
 
 /// Images that are accepted.
 fn taken() -> Vec<(Image, usize)> {
+    let mut all = whole_way_inside();
+    all.extend(leaving_and_back());
+    all.extend(alpha_outside());
+    all
+}
+
+/// Accepted images whose sums stay inside 16 bits, but for alpha's last one.
+fn whole_way_inside() -> Vec<(Image, usize)> {
     vec![
         of(&[]),
         // Readings: one image for several words that do not touch each other.
@@ -96,6 +107,43 @@ fn taken() -> Vec<(Image, usize)> {
     ]
 }
 
+/// Words that are the same from one address to before another.
+fn all_of(from: usize, to: usize, word: u16) -> Vec<(usize, u16)> {
+    (from..to).map(|address| (address, word)).collect()
+}
+
+/// Accepted images with sums that leave 16 bits and come back, of offset and of alpha, above and below.
+fn leaving_and_back() -> Vec<(Image, usize)> {
+    let joined = |words: &[&[(usize, u16)]]| of(&words.concat());
+    let row_0 = |word: u16| all_of(0x2440, 0x2460, word);
+    let column_0 = |word: u16| (0..24).map(|row| (0x2440 + 32 * row, word)).collect::<Vec<_>>();
+    vec![
+        // Outside with every row, and back with every column.
+        joined(&[&[(0x2411, 0x7FFF)], &all_of(0x2412, 0x2418, 0x1111), &all_of(0x2418, 0x2420, 0xFFFF)]),
+        joined(&[&[(0x2411, 0x8000)], &all_of(0x2412, 0x2418, 0xFFFF), &all_of(0x2418, 0x2420, 0x1111)]),
+        joined(&[&[(0x2421, 0x7FFF)], &all_of(0x2422, 0x2428, 0x1111), &all_of(0x2428, 0x2430, 0xFFFF)]),
+        joined(&[&[(0x2421, 0x8000)], &all_of(0x2422, 0x2428, 0xFFFF), &all_of(0x2428, 0x2430, 0x1111)]),
+        // Row 0 is outside with the row, stays outside with the column, and is back with the remainder.
+        joined(&[&[(0x2411, 0x7FFF), (0x2412, 0x0001), (0x2421, 0x8000), (0x2422, 0x000F)], &row_0(0xFC10)]),
+        joined(&[&[(0x2411, 0x8000), (0x2412, 0x000F), (0x2421, 0x7FFF), (0x2422, 0x0001)], &row_0(0x07F0)]),
+        // Column 0 is outside with the column, and back with the remainder.
+        joined(&[&[(0x2411, 0x7FFF), (0x2418, 0x0001), (0x2421, 0x8000), (0x2428, 0x000F)], &column_0(0xFC10)]),
+        joined(&[&[(0x2411, 0x8000), (0x2418, 0x000F), (0x2421, 0x7FFF), (0x2428, 0x0001)], &column_0(0x07F0)]),
+        accepted(leaving::leaving, 1),
+    ]
+}
+
+/// Accepted images in which alpha's sum ends outside 16 bits, above and below.
+fn alpha_outside() -> Vec<(Image, usize)> {
+    vec![
+        of(&[(0x2421, 0x7FFF), (0x2422, 0x0100)]),
+        of(&[(0x2421, 0x8000), (0x2428, 0xF000)]),
+        // As far outside as it can be: 121855 in pixel 0, and -131072 in pixel 767.
+        of(&[(0x2420, 0xFCCA), (0x2421, 0x7FFF), (0x2422, 0x0007), (0x2428, 0x0007), (0x2440, 0x01F0)]),
+        of(&[(0x2420, 0x0CCA), (0x2421, 0x8000), (0x2427, 0x8000), (0x242F, 0x8000), (0x273F, 0x0200)]),
+    ]
+}
+
 /// The datasheet's worked example.
 const WORKED_EXAMPLE: [(usize, u16); 15] = [
     (0x2410, 0x4210),
@@ -115,7 +163,8 @@ const WORKED_EXAMPLE: [(usize, u16); 15] = [
     (0x25AF, 0x08A0),
 ];
 
-/// Images that are refused for one fault: too short, then each step of the walk in turn, of offset, alpha and Kta.
+/// Images that are refused for one fault: too short, then each step of the walk in turn, of offset, alpha and Kta. A sum of
+/// offset is brought outside by the row, by the column, and by the remainder.
 fn refused() -> Vec<(Image, usize)> {
     let mut all: Vec<(Image, usize)> =
         [0, 1, 830, 831, 1000, 1663].iter().map(|len| (images::lifelike(1), *len)).collect();
@@ -128,9 +177,7 @@ fn refused() -> Vec<(Image, usize)> {
         of(&[(0x2410, 0x000B), (0x2460, 0x4000)]),
         of(&[(0x2411, 0x8000), (0x273F, 0xFC00)]),
         of(&[(0x2420, 0x0F00), (0x2427, 0x1000)]),
-        of(&[(0x2421, 0x7FFF), (0x2422, 0x0100)]),
         of(&[(0x2420, 0x00F0), (0x2429, 0x0010)]),
-        of(&[(0x2421, 0x8000), (0x2428, 0xF000)]),
         of(&[(0x2420, 0x000B), (0x2500, 0x0100)]),
         of(&[(0x2438, 0x000F), (0x273F, 0x0002)]),
         of(&[(0x2436, 0xFF00), (0x2438, 0x000D), (0x2442, 0x0008)]),
@@ -194,7 +241,8 @@ fn entry(of: &(Image, usize)) -> Vec<u8> {
             let judge = Release::decode(&image).answer().expect("the original crate takes an accepted image");
             entry.extend_from_slice(&judge.record());
             judge.offset().iter().for_each(|x| entry.extend_from_slice(&x.to_be_bytes()));
-            judge.alpha().iter().for_each(|x| entry.extend_from_slice(&x.to_bits().to_be_bytes()));
+            let alpha = sums::alpha_of(judge.alpha(), &sums::wrapped(&image));
+            alpha.iter().for_each(|x| entry.extend_from_slice(&x.to_bits().to_be_bytes()));
             judge.k_ta().iter().for_each(|x| entry.extend_from_slice(&x.to_bits().to_be_bytes()));
         }
     }

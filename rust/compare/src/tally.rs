@@ -4,12 +4,15 @@ use std::collections::BTreeMap;
 use std::fmt::Debug;
 use std::hash::{Hash, Hasher};
 
+use crate::sums::Way;
+
 /// What a comparison holds its subject to.
 #[derive(Clone, Copy, Debug, Eq, PartialEq)]
 pub enum Held {
     Crate,
     Checked,
     Walk,
+    Wide,
     Sets,
     Rules,
     Judges,
@@ -19,9 +22,9 @@ pub enum Held {
 
 impl Held {
     /// Comparisons of the library's answers, those with the original crate first.
-    pub const ANSWERS: [Held; 5] = [Held::Crate, Held::Checked, Held::Walk, Held::Sets, Held::Rules];
+    pub const ANSWERS: [Held; 6] = [Held::Crate, Held::Checked, Held::Walk, Held::Wide, Held::Sets, Held::Rules];
     /// Comparisons with a model, where the original crate has no answer that counts.
-    pub const MODELS: [Held; 3] = [Held::Walk, Held::Sets, Held::Rules];
+    pub const MODELS: [Held; 4] = [Held::Walk, Held::Wide, Held::Sets, Held::Rules];
     /// Comparisons that are not about an answer of the library.
     pub const BESIDE: [Held; 3] = [Held::Judges, Held::Files, Held::Bytes];
 
@@ -34,6 +37,7 @@ impl Held {
             Held::Crate => "crate",
             Held::Checked => "checked",
             Held::Walk => "walk",
+            Held::Wide => "wide",
             Held::Sets => "sets",
             Held::Rules => "rules",
             Held::Judges => "judges",
@@ -47,6 +51,7 @@ impl Held {
             Held::Crate => "the original crate, release build",
             Held::Checked => "the original crate once more, built with overflow checks",
             Held::Walk => "model in wide integers: an image is accepted, or its refusal, table and pixel",
+            Held::Wide => "model in wide integers: alpha, where the crate's sum wraps",
             Held::Sets => "model of sets: words, marks, counts and refusals of gatherings",
             Held::Rules => "model of the interface's rules: out of range, too short, unread, any record",
             Held::Judges => "not the library: the model and the crate's two builds, against each other",
@@ -72,7 +77,7 @@ impl Count {
 /// One part of the run: images of one kind, or questions of one kind.
 #[derive(Clone, Default)]
 pub struct Part {
-    counts: [Count; 8],
+    counts: [Count; 9],
     /// A hash of each image that was compared.
     images: Vec<u64>,
     pub accepted: u64,
@@ -105,9 +110,9 @@ pub fn distinct<'a>(parts: impl Iterator<Item = &'a Part>) -> usize {
     hashes.len()
 }
 
-/// What the original crate did where the library refuses.
+/// What the original crate did with images of one kind.
 #[derive(Clone, Default)]
-pub struct Refusals {
+pub struct Doings {
     pub seen: u64,
     /// Release build: answered, gave an error, panicked.
     pub release: [u64; 3],
@@ -115,10 +120,25 @@ pub struct Refusals {
     pub checked: [u64; 3],
 }
 
+impl Doings {
+    fn add(&mut self, other: Doings) {
+        self.seen += other.seen;
+        for i in 0..3 {
+            self.release[i] += other.release[i];
+            self.checked[i] += other.checked[i];
+        }
+    }
+}
+
 #[derive(Clone, Default)]
 pub struct Tally {
     pub parts: BTreeMap<&'static str, Part>,
-    pub refusals: BTreeMap<u8, Refusals>,
+    /// Images that the library refuses, by the refusal's number.
+    pub refusals: BTreeMap<u8, Doings>,
+    /// Images that it accepts, although a sum that the crate makes in 16 bits leaves them.
+    pub overflows: Doings,
+    /// How many sums of offset and of alpha went each way out of 16 bits.
+    pub ways: [[u64; Way::COUNT]; 2],
     /// The first few differences, in words.
     pub shown: Vec<String>,
     /// What this run did not compare, and why.
@@ -149,6 +169,11 @@ impl Tally {
     /// An image that the library accepts.
     pub fn accepted(&mut self) {
         self.current().accepted += 1;
+    }
+
+    /// A sum of the offset table or of alpha that went this way.
+    pub fn way(&mut self, table: usize, way: Way) {
+        self.ways[table][way.number()] += 1;
     }
 
     /// Counts things that were compared, of which some may differ; the first few differences are printed at the end.
@@ -207,13 +232,12 @@ impl Tally {
         for (name, part) in other.parts {
             self.parts.entry(name).or_default().add(part);
         }
-        for (number, refusals) in other.refusals {
-            let mine = self.refusals.entry(number).or_default();
-            mine.seen += refusals.seen;
-            for i in 0..3 {
-                mine.release[i] += refusals.release[i];
-                mine.checked[i] += refusals.checked[i];
-            }
+        for (number, doings) in other.refusals {
+            self.refusals.entry(number).or_default().add(doings);
+        }
+        self.overflows.add(other.overflows);
+        for (mine, theirs) in self.ways.iter_mut().flatten().zip(other.ways.iter().flatten()) {
+            *mine += theirs;
         }
         self.shown.extend(other.shown);
         self.shown.truncate(SHOWN);

@@ -1,6 +1,7 @@
 //! Images with two faults each, for the recorded sample. The walk names the fault that it comes to first; where that one is
 //! cured and nothing else changes, it names the other. So the order of the walk is held by stored answers: offset table, alpha,
-//! Kta; in each the pixels from 0 to 767; in each pixel row term, sum, column term, sum, remainder term, and (not for alpha) sum.
+//! Kta; in each the pixels from 0 to 767; in each pixel first the terms, then (not for alpha) the sum. Which of two terms of a
+//! pixel is outside can't be told from the refusal, and a sum that comes back is no fault.
 use crate::images::{self, Image};
 use crate::model::{self, Refused};
 
@@ -49,14 +50,14 @@ fn two(what: &str, words: Words, first: Refused, cure: Words, second: Refused) -
 pub fn two_faults() -> Vec<TwoFaults> {
     let mut all = in_two_tables();
     for (table, name) in [(0, "offset"), (1, "alpha")] {
-        let layout = Layout::of(table);
-        let of_table = vec![in_one_pixel(&layout), in_two_pixels(&layout), in_two_rows(&layout)];
-        for mut two in of_table.into_iter().flatten() {
+        for mut two in two_terms(&Layout::of(table)) {
             two.what = format!("{}: {}", name, two.what);
             all.push(two);
         }
     }
-    all.extend(last_sums());
+    all.extend(in_one_pixel());
+    all.extend(in_two_pixels());
+    all.extend(no_faults());
     all.extend(of_k_ta());
     all
 }
@@ -73,15 +74,13 @@ const fn fault(what: &'static str, words: Words<'static>, named: Refused) -> Fau
 }
 
 /// Faults of offset and alpha in late pixels, and of alpha and Kta in pixel 0. No two of different tables share a word.
-const LATE: [Fault; 4] = [
+const LATE: [Fault; 3] = [
     fault("offset's term of pixel 767", &[(0x2410, 0x000B), (0x273F, 0x4000)], term(0, 767)),
     fault("offset's sum of pixel 767", &[(0x2411, 0x8000), (0x273F, 0xFC00)], sum(0, 767)),
     fault("alpha's term of pixel 736", &[(0x2420, 0x0F00), (0x2427, 0x1000)], term(1, 736)),
-    fault("alpha's sum of pixel 736", &[(0x2421, 0x8000), (0x2427, 0xF000)], sum(1, 736)),
 ];
-const EARLY: [Fault; 4] = [
+const EARLY: [Fault; 3] = [
     fault("alpha's term of pixel 0", &[(0x2420, 0x0F00), (0x2422, 0x0001)], term(1, 0)),
-    fault("alpha's sum of pixel 0", &[(0x2421, 0x7FFF), (0x2422, 0x0001)], sum(1, 0)),
     fault("Kta's term of pixel 0", &[(0x2438, 0x000F), (0x2440, 0x0002)], term(2, 0)),
     fault("Kta's sum of pixel 0", &[(0x2436, 0xFF00), (0x2438, 0x000D), (0x2440, 0x0008)], sum(2, 0)),
 ];
@@ -118,7 +117,6 @@ fn in_two_tables() -> Vec<TwoFaults> {
 struct Layout {
     table: u8,
     scales: usize,
-    average: usize,
     rows: usize,
     columns: usize,
     /// A pixel's word whose remainder is 16: with a scale of 11 it leaves 16 bits, with 10 it does not.
@@ -128,81 +126,16 @@ struct Layout {
 impl Layout {
     fn of(table: u8) -> Self {
         let (scales, low) = if table == 0 { (0x2410, 10) } else { (0x2420, 4) };
-        Layout { table, scales, average: scales + 1, rows: scales + 2, columns: scales + 8, high: 16 << low }
-    }
-
-    fn term(&self, pixel: u64) -> Refused {
-        term(self.table, pixel)
-    }
-
-    fn sum(&self, pixel: u64) -> Refused {
-        sum(self.table, pixel)
+        Layout { table, scales, rows: scales + 2, columns: scales + 8, high: 16 << low }
     }
 }
 
-/// Two faults in pixel 0: the earlier step is named, and it has the other number.
-fn in_one_pixel(layout: &Layout) -> Vec<TwoFaults> {
-    let Layout { scales, average, rows, columns, high, .. } = *layout;
-    let (term, sum) = (layout.term(0), layout.sum(0));
+/// Terms of two pixels, in one row and in two: the lower pixel is named, and no row's or column's term is looked at before a
+/// pixel of it is come to.
+fn two_terms(layout: &Layout) -> Vec<TwoFaults> {
+    let Layout { table, scales, rows, columns, high } = *layout;
+    let term = |pixel| term(table, pixel);
     vec![
-        two("row term, row sum", &[(scales, 0x0F00), (average, 0x7FFF), (rows, 1)], term, &[(scales, 0x0E00)], sum),
-        two(
-            "row sum, column term",
-            &[(scales, 0x00F0), (average, 0x7FFF), (rows, 1), (columns, 1)],
-            sum,
-            &[(rows, 0)],
-            term,
-        ),
-        two(
-            "row sum, remainder term",
-            &[(scales, 0x000B), (average, 0x7FFF), (rows, 1), (0x2440, high)],
-            sum,
-            &[(rows, 0)],
-            term,
-        ),
-        two(
-            "row term, column sum",
-            &[(scales, 0x0F00), (average, 0x7FFF), (rows, 1), (columns, 1)],
-            term,
-            &[(rows, 0)],
-            sum,
-        ),
-        two(
-            "column term, column sum",
-            &[(scales, 0x00F0), (average, 0x7FFF), (columns, 1)],
-            term,
-            &[(scales, 0x00E0)],
-            sum,
-        ),
-        two(
-            "column sum, remainder term",
-            &[(scales, 0x000B), (average, 0x7FFF), (columns, 1), (0x2440, high)],
-            sum,
-            &[(columns, 0)],
-            term,
-        ),
-    ]
-}
-
-/// Faults in two pixels of a row: the lower pixel is named, whatever the steps are.
-fn in_two_pixels(layout: &Layout) -> Vec<TwoFaults> {
-    let Layout { scales, average, columns, high, .. } = *layout;
-    let (term, sum) = (|pixel| layout.term(pixel), |pixel| layout.sum(pixel));
-    vec![
-        two(
-            "sum of pixel 5, remainder term of pixel 6",
-            &[(scales, 0x000B), (average, 0x7FFF), (columns + 1, 0x0010), (0x2446, high)],
-            sum(5),
-            &[(columns + 1, 0)],
-            term(6),
-        ),
-        two(
-            "remainder term of pixel 5, sum of pixel 6",
-            &[(scales, 0x000B), (average, 0x7FFF), (columns + 1, 0x0100), (0x2445, high)],
-            term(5),
-            &[(0x2445, 0)],
-            sum(6),
-        ),
         two(
             "remainder term of pixel 3, column term of pixel 7",
             &[(scales, 0x00FB), (columns + 1, 0x1000), (0x2443, high)],
@@ -217,14 +150,6 @@ fn in_two_pixels(layout: &Layout) -> Vec<TwoFaults> {
             &[(columns, 0)],
             term(7),
         ),
-    ]
-}
-
-/// Faults in two rows: a row's terms are not looked at before the row is come to.
-fn in_two_rows(layout: &Layout) -> Vec<TwoFaults> {
-    let Layout { scales, average, rows, columns, high, .. } = *layout;
-    let (term, sum) = (|pixel| layout.term(pixel), |pixel| layout.sum(pixel));
-    vec![
         two(
             "column term of pixel 1, row term of pixel 736",
             &[(scales, 0x0FF0), (columns, 0x0020), (rows + 5, 0x1000)],
@@ -233,60 +158,129 @@ fn in_two_rows(layout: &Layout) -> Vec<TwoFaults> {
             term(736),
         ),
         two(
-            "column term of pixel 31, row sum of pixel 32",
-            &[(scales, 0x00F0), (average, 0x7FFF), (columns + 7, 0x1000), (rows, 0x0010)],
-            term(31),
-            &[(columns + 7, 0)],
-            sum(32),
-        ),
-        two(
             "remainder term of pixel 63, row term of pixel 64",
             &[(scales, 0x0F0B), (rows, 0x0100), (0x2440 + 63, high)],
             term(63),
             &[(0x2440 + 63, 0)],
             term(64),
         ),
+        two(
+            "row term of pixel 32, remainder term of pixel 100",
+            &[(scales, 0x0F0B), (rows, 0x0010), (0x2440 + 100, high)],
+            term(32),
+            &[(rows, 0)],
+            term(100),
+        ),
     ]
 }
 
-/// The last sum is a step of offset, and none of alpha.
-fn last_sums() -> Vec<TwoFaults> {
+/// Offset's average at its largest.
+const FULL: (usize, u16) = (0x2411, 0x7FFF);
+
+/// A term and the sum of one pixel of offset: the term is named, also where the sum was outside before that term came in.
+fn in_one_pixel() -> Vec<TwoFaults> {
+    let both = |what: &str, words: Words, cure: Words| two(what, words, term(0, 0), cure, sum(0, 0));
+    vec![
+        both("offset: row term, sum", &[(0x2410, 0x0F00), FULL, (0x2412, 1)], &[(0x2410, 0x0E00)]),
+        both("offset: column term, sum", &[(0x2410, 0x00F0), FULL, (0x2418, 1)], &[(0x2410, 0x00E0)]),
+        both("offset: remainder term, sum", &[(0x2410, 0x000B), FULL, (0x2440, 0x4000)], &[(0x2410, 0x000A)]),
+        both(
+            "offset: column term, sum by the row",
+            &[(0x2410, 0x00F0), FULL, (0x2412, 1), (0x2418, 1)],
+            &[(0x2418, 0)],
+        ),
+        both(
+            "offset: remainder term, sum by the row",
+            &[(0x2410, 0x000B), FULL, (0x2412, 1), (0x2440, 0x4000)],
+            &[(0x2440, 0)],
+        ),
+        both(
+            "offset: remainder term, sum by the column",
+            &[(0x2410, 0x000B), FULL, (0x2418, 1), (0x2440, 0x4000)],
+            &[(0x2440, 0)],
+        ),
+        // A term that is outside alone, while the sum with it is inside.
+        both(
+            "offset: remainder term that brings the sum back",
+            &[(0x2410, 0x000B), FULL, (0x2412, 1), (0x2440, 0xBC00)],
+            &[(0x2440, 0)],
+        ),
+    ]
+}
+
+/// A term and a sum in two pixels of offset: the lower pixel is named.
+fn in_two_pixels() -> Vec<TwoFaults> {
     vec![
         two(
-            "offset: row term, last sum",
-            &[(0x2410, 0x0F00), (0x2411, 0x7FFF), (0x2412, 0x0001), (0x2440, 0x0400)],
-            term(0, 0),
-            &[(0x2412, 0)],
-            sum(0, 0),
+            "offset: sum of pixel 5, remainder term of pixel 6",
+            &[(0x2410, 0x000B), FULL, (0x2419, 0x0010), (0x2446, 0x4000)],
+            sum(0, 5),
+            &[(0x2419, 0)],
+            term(0, 6),
         ),
         two(
-            "offset: column term, last sum",
-            &[(0x2410, 0x00F0), (0x2411, 0x7FFF), (0x2418, 0x0001), (0x2440, 0x0400)],
-            term(0, 0),
-            &[(0x2418, 0)],
-            sum(0, 0),
+            "offset: remainder term of pixel 5, sum of pixel 6",
+            &[(0x2410, 0x000B), FULL, (0x2419, 0x0100), (0x2445, 0x4000)],
+            term(0, 5),
+            &[(0x2445, 0)],
+            sum(0, 6),
         ),
         two(
-            "offset: remainder term, last sum",
-            &[(0x2410, 0x000B), (0x2411, 0x7FFF), (0x2440, 0x4000)],
-            term(0, 0),
-            &[(0x2410, 0x000A)],
-            sum(0, 0),
+            "offset: column term of pixel 31, sum of pixel 32",
+            &[(0x2410, 0x00F0), FULL, (0x241F, 0x1000), (0x2412, 0x0010)],
+            term(0, 31),
+            &[(0x241F, 0)],
+            sum(0, 32),
         ),
         two(
-            "offset: last sum of pixel 31, row sum of pixel 32",
+            "offset: sum of pixel 31, row term of pixel 32",
+            &[(0x2410, 0x0F00), (0x2411, 0x8000), (0x2412, 0x0010), (0x245F, 0xFC00)],
+            sum(0, 31),
+            &[(0x245F, 0)],
+            term(0, 32),
+        ),
+        two(
+            "offset: sum of pixel 31, sum of pixel 32",
             &[(0x2411, 0x8000), (0x2412, 0x00F0), (0x245F, 0xFC00)],
             sum(0, 31),
             &[(0x245F, 0)],
             sum(0, 32),
         ),
-        // Cured, alpha's last sum leaves 16 bits in pixel 0, which is no fault: the walk goes on to Kta.
-        two(
-            "alpha: remainder term of pixel 0; Kta's term of pixel 767",
-            &[(0x2420, 0x000B), (0x2421, 0x7FFF), (0x2440, 0x0100), (0x2438, 0x000F), (0x273F, 0x0002)],
+    ]
+}
+
+/// Cured, these still have sums that leave 16 bits, which is no fault: the walk goes on to the last pixel of Kta.
+fn no_faults() -> Vec<TwoFaults> {
+    const LAST: [(usize, u16); 2] = [(0x2438, 0x000F), (0x273F, 0x0002)];
+    let then_last = |what: &str, words: Words, first: Refused, cure: Words| {
+        two(&format!("{}; Kta's term of pixel 767", what), &[words, &LAST].concat(), first, cure, term(2, 767))
+    };
+    let columns = |word: u16| (0x2418..0x2420).map(|address| (address, word)).collect::<Vec<_>>();
+    let own = |word: u16| (0x2440..0x2460).map(|address| (address, word)).collect::<Vec<_>>();
+    vec![
+        then_last(
+            "offset: sum of pixel 0, above, that the columns bring back",
+            &[(0x2411, 0x7FFF), (0x2412, 0x0001)],
+            sum(0, 0),
+            &columns(0xFFFF),
+        ),
+        then_last(
+            "offset: sum of pixel 0, below, that the remainders bring back",
+            &[(0x2411, 0x8000), (0x2412, 0x000F)],
+            sum(0, 0),
+            &own(0x0400),
+        ),
+        then_last(
+            "alpha: column term of pixel 0, with sums outside by the row",
+            &[(0x2420, 0x00F0), (0x2421, 0x7FFF), (0x2422, 0x0001), (0x2428, 0x0001)],
+            term(1, 0),
+            &[(0x2428, 0)],
+        ),
+        then_last(
+            "alpha: remainder term of pixel 0, with a sum outside by it",
+            &[(0x2420, 0x000B), (0x2421, 0x7FFF), (0x2440, 0x0100)],
             term(1, 0),
             &[(0x2420, 0x000A)],
-            term(2, 767),
         ),
     ]
 }
