@@ -39,10 +39,10 @@ typedef uint64_t mofuleka_answer;
 
 /* The refusals by name. */
 #define MOFULEKA_ACCEPTED 0u
-#define MOFULEKA_SHORT_IMAGE 1u         /* the image has fewer than 1664 bytes */
+#define MOFULEKA_IMAGE_LENGTH 1u        /* the image has fewer than 1664 bytes */
 #define MOFULEKA_SHORT_SLICE 2u         /* a slice is too short for what goes into it */
-#define MOFULEKA_TERM 3u                /* a scaled term is outside 16 bits; table and pixel given */
-#define MOFULEKA_SUM 4u                 /* the final sum is outside 16 bits; table and pixel given */
+#define MOFULEKA_TERM_OUTSIDE 3u        /* a scaled term is outside 16 bits; table and pixel given */
+#define MOFULEKA_SUM_OUTSIDE 4u         /* the final sum is outside 16 bits; table and pixel given */
 #define MOFULEKA_BLOCK_LENGTH 5u        /* the block has under 2 bytes, or not as many as it says */
 #define MOFULEKA_BLOCK_COUNT 6u         /* the block's length field is below 5, above 131, or even */
 #define MOFULEKA_BLOCK_VERSION 7u       /* the block's version is not 1 */

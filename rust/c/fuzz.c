@@ -375,8 +375,8 @@ static struct sum sum_of(const uint8_t *image, unsigned table, unsigned pixel) {
 /* What fails first in such a pixel; 0 if nothing does. All terms come before the sum, and alpha's sum may be anything. */
 static unsigned pixel_failure(const uint8_t *image, unsigned table, unsigned pixel) {
   struct sum s = sum_of(image, table, pixel);
-  if (!fits(s.row) || !fits(s.column) || !fits(s.remainder)) return MOFULEKA_TERM;
-  return table == 0 && !fits(s.average + s.row + s.column + s.remainder) ? MOFULEKA_SUM : 0;
+  if (!fits(s.row) || !fits(s.column) || !fits(s.remainder)) return MOFULEKA_TERM_OUTSIDE;
+  return table == 0 && !fits(s.average + s.row + s.column + s.remainder) ? MOFULEKA_SUM_OUTSIDE : 0;
 }
 
 /* Whether an offset is outside 16 bits before all its terms are in, which is no failure. */
@@ -394,8 +394,8 @@ static unsigned k_ta_failure(const uint8_t *image, unsigned pixel) {
   unsigned odd_row = pixel / 32 % 2, odd_column = pixel % 2;
   int average = signed_bits(word_at(image, 0x2436 + odd_column), odd_row ? 0 : 8, 8);
   int remainder = signed_bits(word_at(image, 0x2440 + pixel), 1, 3) * (1 << (word_at(image, 0x2438) & 15));
-  if (!fits(remainder)) return MOFULEKA_TERM;
-  return fits(average + remainder) ? 0 : MOFULEKA_SUM;
+  if (!fits(remainder)) return MOFULEKA_TERM_OUTSIDE;
+  return fits(average + remainder) ? 0 : MOFULEKA_SUM_OUTSIDE;
 }
 
 /* Accepted images with an offset that left 16 bits and came back. */
@@ -418,7 +418,7 @@ static int short_tables(const struct call *c) {
 }
 
 static mofuleka_answer answer_from_data(const struct call *c) {
-  if (c->len[0] < IMAGE_BYTES) return plain(MOFULEKA_SHORT_IMAGE);
+  if (c->len[0] < IMAGE_BYTES) return plain(MOFULEKA_IMAGE_LENGTH);
   return short_tables(c) ? plain(MOFULEKA_SHORT_SLICE) : walk(content[0]);
 }
 
@@ -671,7 +671,7 @@ static void check_kept(const struct call *c, unsigned i, mofuleka_answer a, int 
 static void check_form(const struct call *c, mofuleka_answer a) {
   unsigned number = mofuleka_number(a), table = mofuleka_table(a);
   int is_correction = c->function == CORRECTION_PIXEL || c->function == CORRECTION_CP;
-  int has_pixel = number == MOFULEKA_TERM || number == MOFULEKA_SUM;
+  int has_pixel = number == MOFULEKA_TERM_OUTSIDE || number == MOFULEKA_SUM_OUTSIDE;
   int has_word = number == MOFULEKA_WORD_IN_CONFLICT || number == MOFULEKA_WORD_MISSING;
   unsigned most_table = has_pixel ? 2 : is_correction && number == MOFULEKA_ACCEPTED ? 1 : 0;
   uint64_t most_place = has_pixel ? PIXELS - 1 : has_word ? WORDS - 1 : 0;

@@ -59,8 +59,8 @@ static void decoding(void) {
   mofuleka_answer a;
   memset(image, 0, sizeof image);
   fill();
-  CHECK(mofuleka_number(decode(0)) == MOFULEKA_SHORT_IMAGE);
-  CHECK(mofuleka_number(decode(1663)) == MOFULEKA_SHORT_IMAGE);
+  CHECK(mofuleka_number(decode(0)) == MOFULEKA_IMAGE_LENGTH);
+  CHECK(mofuleka_number(decode(1663)) == MOFULEKA_IMAGE_LENGTH);
   CHECK(nothing_written());
   a = mofuleka_from_data(image, 1664, offset, 1535, alpha, 3072, k_ta, 3072, record, 122);
   CHECK(mofuleka_number(a) == MOFULEKA_SHORT_SLICE && nothing_written());
@@ -121,13 +121,13 @@ static void decoding(void) {
   set(0x2413, 0x0010);
   fill();
   a = decode(1664);
-  CHECK(mofuleka_number(a) == MOFULEKA_SUM && mofuleka_table(a) == 0 && mofuleka_place(a) == 160);
+  CHECK(mofuleka_number(a) == MOFULEKA_SUM_OUTSIDE && mofuleka_table(a) == 0 && mofuleka_place(a) == 160);
   CHECK(nothing_written());
   memset(image, 0, sizeof image);
   set(0x2438, 0x000F);
   set(0x273F, 0x0002);
   a = decode(1664);
-  CHECK(mofuleka_number(a) == MOFULEKA_TERM && mofuleka_table(a) == 2 && mofuleka_place(a) == 767);
+  CHECK(mofuleka_number(a) == MOFULEKA_TERM_OUTSIDE && mofuleka_table(a) == 2 && mofuleka_place(a) == 767);
   CHECK(nothing_written());
 }
 
@@ -145,7 +145,7 @@ static void sums(void) {
   CHECK(mofuleka_read_f32(alpha) == 32768.0f / 1073741824.0f);
   CHECK(mofuleka_read_f32(alpha + 3068) == 32767.0f / 1073741824.0f);
   set(0x241F, 0x0FFF);
-  CHECK(mofuleka_number(decode(1664)) == MOFULEKA_SUM && mofuleka_place(decode(1664)) == 31);
+  CHECK(mofuleka_number(decode(1664)) == MOFULEKA_SUM_OUTSIDE && mofuleka_place(decode(1664)) == 31);
 }
 
 static void gatherings(void) {

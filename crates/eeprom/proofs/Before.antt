@@ -12,7 +12,7 @@ use lib.IntN.{ℤ}
 use lib.ListN.{length}
 use Rattle.refusal.specs.Code.{codeOf, acceptedBy}
 use Rattle.refusal.specs.declared.Refusal.{Refusal}
-use Rattle.refusal.specs.declared.Refusal.the-variants.{None, ImageShort, TableShort}
+use Rattle.refusal.specs.declared.Refusal.the-variants.{None, ImageLength, ShortSlice}
 use Rattle.steps.specs.Steps.{firstOutside}
 use Rattle.steps.proofs.Meaning.{inside-accepted}
 use Rattle.walk.specs.Walk.{walk}
@@ -25,10 +25,10 @@ use Rattle.eeprom.proofs.Refusals.{accepted-exactly}
 -- the refusal by the old rule
 abbrev pub runningRefusal : List ℕ → ℕ → ℕ → ℕ → Refusal
 runningRefusal image l m n =
-    cond (ltb (length image) 1664) ImageShort
-    (cond (ltb l 768) TableShort
-    (cond (ltb m 768) TableShort
-    (cond (ltb n 768) TableShort
+    cond (ltb (length image) 1664) ImageLength
+    (cond (ltb l 768) ShortSlice
+    (cond (ltb m 768) ShortSlice
+    (cond (ltb n 768) ShortSlice
     (firstOutside (runningWalk (imageWords image))))))
 
 -- what both rules answer, and what they leave in the three tables, is the same
@@ -44,7 +44,7 @@ module _ (image : List ℕ) (l m n : ℕ) where
   passed : runningRefusal image l m n ≡ None → firstOutside (runningWalk (imageWords image)) ≡ None
   passed = go (ltb (length image) 1664) (ltb l 768) (ltb m 768) (ltb n 768)
     where
-      go : (a b c d : Bool) {r : Refusal} → cond a ImageShort (cond b TableShort (cond c TableShort (cond d TableShort r))) ≡ None → r ≡ None
+      go : (a b c d : Bool) {r : Refusal} → cond a ImageLength (cond b ShortSlice (cond c ShortSlice (cond d ShortSlice r))) ≡ None → r ≡ None
       go true b c d e = cc
       go false true c d e = cc
       go false false true d e = cc

@@ -11,7 +11,7 @@ use lib.Dec.{ltb}
 use lib.ListN.{length}
 use Rattle.refusal.specs.declared.Table.{Table}
 use Rattle.refusal.specs.declared.Refusal.{Refusal}
-use Rattle.refusal.specs.declared.Refusal.the-variants.{None, ImageShort, TableShort, Term, Sum}
+use Rattle.refusal.specs.declared.Refusal.the-variants.{None, ImageLength, ShortSlice, TermOutside, SumOutside}
 use Rattle.steps.specs.Steps.{firstOutside, AllInside, FirstIs, Step, refusalIn, term, sum}
 use Rattle.walk.specs.Walk.{walk}
 use Rattle.steps.proofs.Meaning.{accepted-inside, inside-accepted, first-refused, refused-first}
@@ -30,24 +30,24 @@ abbrev Narrow : ℕ → ℕ → ℕ → Type 0
 Narrow l m n = (l < 768) ⊎ ((m < 768) ⊎ (n < 768))
 
 -- the walk refuses by 3 or 4 and by nothing else
-no-short : (xs : List Step) → firstOutside xs ≡ ImageShort → ⊥
-no-short xs e = go (refused-first xs ImageShort e (λ d. let z : _≡_ {A = ℕ} 0 1 = cc in omega arith))
+no-short : (xs : List Step) → firstOutside xs ≡ ImageLength → ⊥
+no-short xs e = go (refused-first xs ImageLength e (λ d. let z : _≡_ {A = ℕ} 0 1 = cc in omega arith))
   where
-    never : (s : Step) → refusalIn s ≡ ImageShort → ⊥
+    never : (s : Step) → refusalIn s ≡ ImageLength → ⊥
     never (term t p z) e = let z : _≡_ {A = ℕ} 0 1 = cc in omega arith
     never (sum t p z) e = let z : _≡_ {A = ℕ} 0 1 = cc in omega arith
 
-    go : FirstIs xs ImageShort → ⊥
+    go : FirstIs xs ImageLength → ⊥
     go f = never (f .step) (f .refuses)
 
-no-narrow : (xs : List Step) → firstOutside xs ≡ TableShort → ⊥
-no-narrow xs e = go (refused-first xs TableShort e (λ d. let z : _≡_ {A = ℕ} 0 1 = cc in omega arith))
+no-narrow : (xs : List Step) → firstOutside xs ≡ ShortSlice → ⊥
+no-narrow xs e = go (refused-first xs ShortSlice e (λ d. let z : _≡_ {A = ℕ} 0 1 = cc in omega arith))
   where
-    never : (s : Step) → refusalIn s ≡ TableShort → ⊥
+    never : (s : Step) → refusalIn s ≡ ShortSlice → ⊥
     never (term t p z) e = let z : _≡_ {A = ℕ} 0 1 = cc in omega arith
     never (sum t p z) e = let z : _≡_ {A = ℕ} 0 1 = cc in omega arith
 
-    go : FirstIs xs TableShort → ⊥
+    go : FirstIs xs ShortSlice → ⊥
     go f = never (f .step) (f .refuses)
 
 module _ (image : List ℕ) (l m n : ℕ) where
@@ -56,8 +56,8 @@ module _ (image : List ℕ) (l m n : ℕ) where
 
   -- the three ways that a call goes
   data Way : Type 0 where
-    short : length image < 1664 → refusalOf image l m n ≡ ImageShort → Way
-    narrow : 1664 ≤ length image → Narrow l m n → refusalOf image l m n ≡ TableShort → Way
+    short : length image < 1664 → refusalOf image l m n ≡ ImageLength → Way
+    narrow : 1664 ≤ length image → Narrow l m n → refusalOf image l m n ≡ ShortSlice → Way
     walked : Room image l m n → refusalOf image l m n ≡ firstOutside steps → Way
 
   way : Way
@@ -72,23 +72,23 @@ module _ (image : List ℕ) (l m n : ℕ) where
       go false false false false ea eb ec ed =
           walked (record { whole = ltb-false (length image) 1664 ea; offset = ltb-false l 768 eb; alpha = ltb-false m 768 ec; kta = ltb-false n 768 ed }) (rw (ea, eb, ec, ed))
 
-  pub refusal-1 : (refusalOf image l m n ≡ ImageShort) ↔ (length image < 1664)
+  pub refusal-1 : (refusalOf image l m n ≡ ImageLength) ↔ (length image < 1664)
   refusal-1 = (λ e. to way e, from way)
     where
-      to : Way → refusalOf image l m n ≡ ImageShort → length image < 1664
+      to : Way → refusalOf image l m n ≡ ImageLength → length image < 1664
       to (short h d) e = h
       to (narrow h t d) e = absurd (let z : _≡_ {A = ℕ} 0 1 = cc in omega arith)
       to (walked r d) e = absurd (no-short steps (sym d ∙ e))
 
-      from : Way → length image < 1664 → refusalOf image l m n ≡ ImageShort
+      from : Way → length image < 1664 → refusalOf image l m n ≡ ImageLength
       from (short h d) k = d
       from (narrow h t d) k = absurd (omega arith)
       from (walked r d) k = absurd (omega arith)
 
-  pub refusal-2 : (refusalOf image l m n ≡ TableShort) ↔ ((1664 ≤ length image) × Narrow l m n)
+  pub refusal-2 : (refusalOf image l m n ≡ ShortSlice) ↔ ((1664 ≤ length image) × Narrow l m n)
   refusal-2 = (λ e. to way e, from way)
     where
-      to : Way → refusalOf image l m n ≡ TableShort → (1664 ≤ length image) × Narrow l m n
+      to : Way → refusalOf image l m n ≡ ShortSlice → (1664 ≤ length image) × Narrow l m n
       to (short h d) e = absurd (let z : _≡_ {A = ℕ} 0 1 = cc in omega arith)
       to (narrow h t d) e = (h, t)
       to (walked r d) e = absurd (no-narrow steps (sym d ∙ e))
@@ -96,13 +96,13 @@ module _ (image : List ℕ) (l m n : ℕ) where
       roomy : Room image l m n → Narrow l m n → ⊥
       roomy r t = ⊎-elim (λ (k : l < 768). omega (arith, r .offset)) (⊎-elim (λ (k : m < 768). omega (arith, r .alpha)) (λ (k : n < 768). omega (arith, r .kta))) t
 
-      from : Way → (1664 ≤ length image) × Narrow l m n → refusalOf image l m n ≡ TableShort
+      from : Way → (1664 ≤ length image) × Narrow l m n → refusalOf image l m n ≡ ShortSlice
       from (short h d) k = absurd (omega (arith, k .0))
       from (narrow h t d) k = d
       from (walked r d) k = absurd (roomy r (k .1))
 
   -- any other answer is the walk's, and the other way round
-  pub walk-decides : (r : Refusal) → (r ≡ ImageShort → ⊥) → (r ≡ TableShort → ⊥) → (refusalOf image l m n ≡ r) ↔ (Room image l m n × (firstOutside steps ≡ r))
+  pub walk-decides : (r : Refusal) → (r ≡ ImageLength → ⊥) → (r ≡ ShortSlice → ⊥) → (refusalOf image l m n ≡ r) ↔ (Room image l m n × (firstOutside steps ≡ r))
   walk-decides r a b = (λ e. to way e, λ k. from way k)
     where
       to : Way → refusalOf image l m n ≡ r → Room image l m n × (firstOutside steps ≡ r)
@@ -122,16 +122,16 @@ module _ (image : List ℕ) (l m n : ℕ) where
       (λ e. let k = w .0 e in (k .0, accepted-inside steps (k .1)), λ k. w .1 (k .0, inside-accepted steps (k .1)))
 
   -- 3 or 4 with table t and pixel p exactly where that step is the first outside
-  pub refusal-3 : (t : Table) (p : ℕ) → (refusalOf image l m n ≡ Term t p) ↔ (Room image l m n × FirstIs steps (Term t p))
+  pub refusal-3 : (t : Table) (p : ℕ) → (refusalOf image l m n ≡ TermOutside t p) ↔ (Room image l m n × FirstIs steps (TermOutside t p))
   refusal-3 t p =
-      let w = walk-decides (Term t p) (λ e. let z : _≡_ {A = ℕ} 0 1 = cc in omega arith) (λ e. let z : _≡_ {A = ℕ} 0 1 = cc in omega arith) in (
-        λ e. let k = w .0 e in (k .0, refused-first steps (Term t p) (k .1) (λ d. let z : _≡_ {A = ℕ} 0 1 = cc in omega arith)),
-        λ k. w .1 (k .0, first-refused steps (Term t p) (k .1)),
+      let w = walk-decides (TermOutside t p) (λ e. let z : _≡_ {A = ℕ} 0 1 = cc in omega arith) (λ e. let z : _≡_ {A = ℕ} 0 1 = cc in omega arith) in (
+        λ e. let k = w .0 e in (k .0, refused-first steps (TermOutside t p) (k .1) (λ d. let z : _≡_ {A = ℕ} 0 1 = cc in omega arith)),
+        λ k. w .1 (k .0, first-refused steps (TermOutside t p) (k .1)),
       )
 
-  pub refusal-4 : (t : Table) (p : ℕ) → (refusalOf image l m n ≡ Sum t p) ↔ (Room image l m n × FirstIs steps (Sum t p))
+  pub refusal-4 : (t : Table) (p : ℕ) → (refusalOf image l m n ≡ SumOutside t p) ↔ (Room image l m n × FirstIs steps (SumOutside t p))
   refusal-4 t p =
-      let w = walk-decides (Sum t p) (λ e. let z : _≡_ {A = ℕ} 0 1 = cc in omega arith) (λ e. let z : _≡_ {A = ℕ} 0 1 = cc in omega arith) in (
-        λ e. let k = w .0 e in (k .0, refused-first steps (Sum t p) (k .1) (λ d. let z : _≡_ {A = ℕ} 0 1 = cc in omega arith)),
-        λ k. w .1 (k .0, first-refused steps (Sum t p) (k .1)),
+      let w = walk-decides (SumOutside t p) (λ e. let z : _≡_ {A = ℕ} 0 1 = cc in omega arith) (λ e. let z : _≡_ {A = ℕ} 0 1 = cc in omega arith) in (
+        λ e. let k = w .0 e in (k .0, refused-first steps (SumOutside t p) (k .1) (λ d. let z : _≡_ {A = ℕ} 0 1 = cc in omega arith)),
+        λ k. w .1 (k .0, first-refused steps (SumOutside t p) (k .1)),
       )

@@ -8,7 +8,7 @@ use lib.Dec.{ltb}
 use lib.ListN.{length}
 use Rattle.refusal.specs.Code.{acceptedBy}
 use Rattle.refusal.specs.declared.Refusal.{Refusal}
-use Rattle.refusal.specs.declared.Refusal.the-variants.{ImageShort, TableShort}
+use Rattle.refusal.specs.declared.Refusal.the-variants.{ImageLength, ShortSlice}
 use Rattle.record.specs.Fields.{recordOf, blankRecord}
 use Rattle.steps.specs.Steps.{firstOutside}
 use Rattle.walk.specs.Walk.{walk}
@@ -19,10 +19,10 @@ use Rattle.eeprom.specs.declared.Decoded.{Decoded}
 -- the refusal of an image and three tables that have room for l, m and n entries
 unfoldable pub refusalOf : List ℕ → ℕ → ℕ → ℕ → Refusal
 refusalOf image l m n =
-    cond (ltb (length image) 1664) ImageShort
-    (cond (ltb l 768) TableShort
-    (cond (ltb m 768) TableShort
-    (cond (ltb n 768) TableShort
+    cond (ltb (length image) 1664) ImageLength
+    (cond (ltb l 768) ShortSlice
+    (cond (ltb m 768) ShortSlice
+    (cond (ltb n 768) ShortSlice
     (firstOutside (walk (imageWords image))))))
 
 -- the refusal, and the record beside it

@@ -100,16 +100,16 @@ pub fn from_data(image: &[u8], offset: &mut [i16], alpha: &mut [f32], k_ta: &mut
     ensures k_ta { λ r. ⌜ now («k_ta» .exit) ≡ tableAfter (r .refusal) (ktaAt (imageWords (now (image .entry)))) (now («k_ta» .entry)) ⌝ }
 {
     if image.len() < 1664 {
-        return refused(Refusal::ImageShort);
+        return refused(Refusal::ImageLength);
     }
     if offset.len() < 768 {
-        return refused(Refusal::TableShort);
+        return refused(Refusal::ShortSlice);
     }
     if alpha.len() < 768 {
-        return refused(Refusal::TableShort);
+        return refused(Refusal::ShortSlice);
     }
     if k_ta.len() < 768 {
-        return refused(Refusal::TableShort);
+        return refused(Refusal::ShortSlice);
     }
     let words = read_words(image);
     decode_words(&words, offset, alpha, k_ta)

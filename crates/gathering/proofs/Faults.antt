@@ -10,7 +10,7 @@ use native.Mathlib.Omega.{arith}
 use borrow.Author.Tests.{lt-ltb}
 use lib.Dec.{ltb}
 use Rattle.refusal.specs.declared.Refusal.{Refusal}
-use Rattle.refusal.specs.declared.Refusal.the-variants.{None, Conflict, Missing}
+use Rattle.refusal.specs.declared.Refusal.the-variants.{None, WordInConflict, WordMissing}
 use Rattle.gathering.specs.Cells.{missing, conflict, isMissing, inConflict}
 use Rattle.gathering.specs.Lists.{lowest}
 use Rattle.gathering.specs.State.{cellAt, wordOf, faultFrom, faultOf}
@@ -63,11 +63,11 @@ module _ (C M : ℕ → Type 0) (p q : ℕ → Bool) (c : (w : ℕ) → w < 832 
   abbrev fault : Refusal
   fault = faultFrom (lowest 832 p) (lowest 832 q)
 
-  named : (w : ℕ) → w < 832 → lowest 832 p ≡ w → fault ≡ Conflict w
-  named w l e = ap (λ (k : ℕ). faultFrom k (lowest 832 q)) e ∙ ap (λ (t : Bool). cond t (Conflict w) (cond (ltb (lowest 832 q) 832) (Missing (lowest 832 q)) None)) (lt-ltb w 832 l)
+  named : (w : ℕ) → w < 832 → lowest 832 p ≡ w → fault ≡ WordInConflict w
+  named w l e = ap (λ (k : ℕ). faultFrom k (lowest 832 q)) e ∙ ap (λ (t : Bool). cond t (WordInConflict w) (cond (ltb (lowest 832 q) 832) (WordMissing (lowest 832 q)) None)) (lt-ltb w 832 l)
 
-  lacked : (w : ℕ) → w < 832 → lowest 832 p ≡ 832 → lowest 832 q ≡ w → fault ≡ Missing w
-  lacked w l d e = ap₂ faultFrom d e ∙ ap (λ (t : Bool). cond t (Missing w) None) (lt-ltb w 832 l)
+  lacked : (w : ℕ) → w < 832 → lowest 832 p ≡ 832 → lowest 832 q ≡ w → fault ≡ WordMissing w
+  lacked w l d e = ap₂ faultFrom d e ∙ ap (λ (t : Bool). cond t (WordMissing w) None) (lt-ltb w 832 l)
 
   pub faults : Faults C M fault
   faults = record {
@@ -76,12 +76,12 @@ module _ (C M : ℕ → Type 0) (p q : ℕ → Bool) (c : (w : ℕ) → w < 832 
     neither = (λ e. none-to (search-ends 832 p) (search-ends 832 q) e, λ a. ap₂ faultFrom (no-lowest C p c (a .0)) (no-lowest M q m (a .1)));
   }
     where
-      nine-to : (w : ℕ) → Search 832 p → Search 832 q → fault ≡ Conflict w → Lowest C w
+      nine-to : (w : ℕ) → Search 832 p → Search 832 q → fault ≡ WordInConflict w → Lowest C w
       nine-to w (found u l h f d) s e = let g = named u l d in let same : u ≡ w = cc in subst (Lowest C) same (is-lowest C p c u l h f)
       nine-to w (nowhere f d) (found u l h g k) e = let g = lacked u l d k in absurd (let z : _≡_ {A = ℕ} 0 1 = cc in omega arith)
       nine-to w (nowhere f d) (nowhere g k) e = let g = ap₂ faultFrom d k in absurd (let z : _≡_ {A = ℕ} 0 1 = cc in omega arith)
 
-      ten-to : (w : ℕ) → Search 832 p → Search 832 q → fault ≡ Missing w → NoWord C × Lowest M w
+      ten-to : (w : ℕ) → Search 832 p → Search 832 q → fault ≡ WordMissing w → NoWord C × Lowest M w
       ten-to w (found u l h f d) s e = let g = named u l d in absurd (let z : _≡_ {A = ℕ} 0 1 = cc in omega arith)
       ten-to w (nowhere f d) (found u l h g k) e =
           let r = lacked u l d k in

@@ -20,7 +20,7 @@ use Rattle.eeprom.proofs.Datasheet.{Bytes}
 use Rattle.refusal.specs.declared.Refusal.{Refusal}
 use Rattle.refusal.specs.declared.Refusal.the-variants.{None}
 use Rattle.gathering.specs.Cells.{missing, held}
-use Rattle.gathering.specs.Blocks.{blockBytes, IsBlock, lengthOf, versionOf, bodyOf, readBlock, whyRefused, blockRefusal, carriedIn, carriedBy}
+use Rattle.gathering.specs.Blocks.{blockBytes, IsBlock, countField, versionOf, bodyOf, readBlock, whyRefused, blockRefusal, carriedIn, carriedBy}
 use Rattle.gathering.specs.declared.Block.{Block}
 use Rattle.gathering.specs.declared.Block.the-variants.{Words, Refused}
 use Rattle.gathering.proofs.Bytes.{word-of-bytes, length-bytes}
@@ -79,7 +79,7 @@ block-length : (first : ℕ) (words : List ℕ) → length (blockBytes first wor
 unfolding blockBytes two
 block-length first words = omega (arith, length-bytes words)
 
-block-count : (first : ℕ) (words : List ℕ) → lengthOf (blockBytes first words) ≡ 3 + 2 * length words
+block-count : (first : ℕ) (words : List ℕ) → countField (blockBytes first words) ≡ 3 + 2 * length words
 unfolding blockBytes two
 block-count first words = div-add-mod' (3 + 2 * length words) 256
 

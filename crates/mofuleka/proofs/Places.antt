@@ -11,7 +11,7 @@ use Rattle.refusal.specs.Code.{codeOf, acceptedBy, orElse}
 use Rattle.refusal.specs.declared.Table.{Table}
 use Rattle.refusal.specs.declared.Table.the-variants.{Offset, Alpha, Kta}
 use Rattle.refusal.specs.declared.Refusal.{Refusal}
-use Rattle.refusal.specs.declared.Refusal.the-variants.{None, ImageShort, TableShort, SelectorAbove}
+use Rattle.refusal.specs.declared.Refusal.the-variants.{None, ImageLength, ShortSlice, PatternOrSubpage}
 use Rattle.util.specs.Sums.{in16}
 use Rattle.steps.specs.Steps.{Step, term, sum, valueIn, refusalIn, firstOutside, stepsFrom}
 use Rattle.walk.specs.Walk.{termSteps, pixelSteps, tableSteps, walk}
@@ -44,7 +44,7 @@ pub placed-first : {n : ℕ} (a b : Refusal) → Placed n a → Placed n b → P
 placed-first a b h k = placed-either (λ r. r) (acceptedBy a) b a k h
 
 pub placed-selector : (k : ℕ) → Placed (2 ^ 48) (selectorRefusal k)
-placed-selector k = placed-either (λ r. r) (ltb 1 k) SelectorAbove None (lit< tt) (lit< tt)
+placed-selector k = placed-either (λ r. r) (ltb 1 k) PatternOrSubpage None (lit< tt) (lit< tt)
 
 pub placed-selected : (pattern subpage : ℕ) (later : Refusal) → Placed (2 ^ 48) later → Placed (2 ^ 48) (selectedOr pattern subpage later)
 placed-selected pattern subpage later h =
@@ -63,7 +63,7 @@ placed-resolution a b = placed-either (λ (a : ResolutionAnswer). a .refusal) (l
 
 -- ---- of the record's questions
 pub placed-short : (n : ℕ) → Placed (2 ^ 48) (shortRecord n)
-placed-short n = placed-either (λ r. r) (ltb n 122) TableShort None (lit< tt) (lit< tt)
+placed-short n = placed-either (λ r. r) (ltb n 122) ShortSlice None (lit< tt) (lit< tt)
 
 pub placed-k-v : (r : Record) (p : ℕ) → Placed (2 ^ 48) (kVAnswer r p .refusal)
 unfolding kVAnswer
@@ -125,5 +125,5 @@ pub placed-slices : (image : List ℕ) (o a k r : ℕ) → Placed (2 ^ 48) (slic
 unfolding slicesRefusal
 placed-slices image o a k r =
     let rest = firstOutside (walk (imageWords image)) in
-    placed-either (λ x. x) (ltb (length image) 1664) ImageShort (cond (tooShort o a k r) TableShort rest) (lit< tt)
-    (placed-either (λ x. x) (tooShort o a k r) TableShort rest (lit< tt) (placed-walk (imageWords image)))
+    placed-either (λ x. x) (ltb (length image) 1664) ImageLength (cond (tooShort o a k r) ShortSlice rest) (lit< tt)
+    (placed-either (λ x. x) (tooShort o a k r) ShortSlice rest (lit< tt) (placed-walk (imageWords image)))

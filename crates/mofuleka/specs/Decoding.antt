@@ -6,7 +6,7 @@ use mathlib.Core.List.{List, _++_}
 use lib.Dec.{ltb}
 use lib.ListN.{length, drop}
 use Rattle.refusal.specs.declared.Refusal.{Refusal}
-use Rattle.refusal.specs.declared.Refusal.the-variants.{ImageShort, TableShort}
+use Rattle.refusal.specs.declared.Refusal.the-variants.{ImageLength, ShortSlice}
 use Rattle.steps.specs.Steps.{firstOutside}
 use Rattle.walk.specs.Walk.{walk}
 use Rattle.tables.specs.Tab.{tab}
@@ -21,8 +21,8 @@ tooShort offset alpha kta rec = ltb offset 1536 || ltb alpha 3072 || ltb kta 307
 -- refusal 1, then 2, then 3 and 4
 unfoldable pub slicesRefusal : List ℕ → ℕ → ℕ → ℕ → ℕ → Refusal
 slicesRefusal image offset alpha kta rec =
-    cond (ltb (length image) 1664) ImageShort
-    (cond (tooShort offset alpha kta rec) TableShort
+    cond (ltb (length image) 1664) ImageLength
+    (cond (tooShort offset alpha kta rec) ShortSlice
     (firstOutside (walk (imageWords image))))
 
 -- the tables' bytes, over the words of the image

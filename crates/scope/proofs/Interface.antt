@@ -13,7 +13,7 @@ use borrow.Fn.Kinds.{Dens}
 use denote.Ref.{now}
 use Rattle.refusal.specs.Code.{orElse}
 use Rattle.refusal.specs.declared.Refusal.{Refusal}
-use Rattle.refusal.specs.declared.Refusal.the-variants.{None, TableShort}
+use Rattle.refusal.specs.declared.Refusal.the-variants.{None, ShortSlice}
 use Rattle.util.specs.Bytes.{bytesOf}
 use Rattle.record.specs.Fields.{recordOf}
 use Rattle.eeprom.specs.Image.{imageWords}
@@ -75,7 +75,7 @@ slices-same a b s o l k c = rw (le-ltb (length a) 1664 (s .long-a), le-ltb (leng
 -- a full gathering's bytes, as the image that its values are
 as-image : (s : List ℕ) → 2496 ≤ length s → faultOf (gatheringIn s) ≡ None → (o l k c : ℕ) → gatheredRefusal s o l k c ≡ slicesRefusal (bytesOf (gatheringIn s .values)) o l k c
 as-image s h full o l k c =
-    ap (λ (t : Bool). let g = cond t freshState (gatheringIn s) in orElse (cond t TableShort None) (orElse (faultOf g) (slicesRefusal (bytesOf (g .values)) o l k c))) (le-ltb (length s) 2496 h)
+    ap (λ (t : Bool). let g = cond t freshState (gatheringIn s) in orElse (cond t ShortSlice None) (orElse (faultOf g) (slicesRefusal (bytesOf (g .values)) o l k c))) (le-ltb (length s) 2496 h)
     ∙ ap (λ (r : Refusal). orElse r (slicesRefusal (bytesOf (gatheringIn s .values)) o l k c)) full
 
 words-of : (s : List ℕ) → 2496 ≤ length s → gatheredWords (storedGathering s) ≡ imageWords (bytesOf (gatheringIn s .values))

@@ -8,7 +8,7 @@ use mathlib.Core.List.{List, [], _∷_, _++_}
 use lib.IntN.{ℤ}
 use Rattle.refusal.specs.declared.Table.{Table}
 use Rattle.refusal.specs.declared.Refusal.{Refusal}
-use Rattle.refusal.specs.declared.Refusal.the-variants.{None, Term, Sum}
+use Rattle.refusal.specs.declared.Refusal.the-variants.{None, TermOutside, SumOutside}
 use Rattle.util.specs.Sums.{in16}
 
 -- a scaled term, or a sum, of a pixel of a table
@@ -22,8 +22,8 @@ valueIn (sum t p z) = z
 
 -- refusal 3 for a term, 4 for a sum
 abbrev pub refusalIn : Step → Refusal
-refusalIn (term t p z) = Term t p
-refusalIn (sum t p z) = Sum t p
+refusalIn (term t p z) = TermOutside t p
+refusalIn (sum t p z) = SumOutside t p
 
 -- the steps of the n pixels from p on
 unfoldable pub stepsFrom : (ℕ → List Step) → ℕ → ℕ → List Step

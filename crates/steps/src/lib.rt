@@ -8,20 +8,20 @@ ghost use Rattle.steps.specs.Steps.{firstOutside};
 ghost use Rattle.steps.specs.Steps as steps;
 
 // The first fault of a pixel with at most three terms and a sum. For what a pixel doesn't have the caller hands over 0.
-pub fn first_of(table: Table, p: usize, row: i32, column: i32, own: i32, total: i32) -> Refusal
+pub fn first_of(table: Table, p: u32, row: i32, column: i32, own: i32, total: i32) -> Refusal
     ensures { λ r. ⌜ r ≡ firstOutside (steps.term table p row ∷ steps.term table p column ∷ steps.term table p own ∷ steps.sum table p total ∷ []) ⌝ }
 {
     if outside(row) {
-        return Refusal::Term(table, p);
+        return Refusal::TermOutside(table, p);
     }
     if outside(column) {
-        return Refusal::Term(table, p);
+        return Refusal::TermOutside(table, p);
     }
     if outside(own) {
-        return Refusal::Term(table, p);
+        return Refusal::TermOutside(table, p);
     }
     if outside(total) {
-        return Refusal::Sum(table, p);
+        return Refusal::SumOutside(table, p);
     }
     Refusal::None
 }

@@ -11,7 +11,7 @@ use lib.Dec.{eqb, leb, ltb}
 use Rattle.refusal.specs.declared.Table.{Table}
 use Rattle.refusal.specs.declared.Table.the-variants.{Offset, Alpha, Kta}
 use Rattle.refusal.specs.declared.Refusal.{Refusal}
-use Rattle.refusal.specs.declared.Refusal.the-variants.{None, Sum}
+use Rattle.refusal.specs.declared.Refusal.the-variants.{None, SumOutside}
 use Rattle.refusal.specs.Code.{codeOf, acceptedBy, orElse}
 use Rattle.util.specs.Sums.{in16}
 use Rattle.steps.specs.Steps.{Step, term, sum, firstOutside, AllInside, stepsFrom}
@@ -71,7 +71,7 @@ only-steps f (suc n) p h =
     (only-either (firstOutside (f p)) (firstOutside (stepsFrom f n (p + 1))) (rw e at (h 0 (omega arith)))
     (only-steps f n (p + 1) (λ k l. let d : p + 1 + k ≡ p + suc k = omega arith in rw d (h (suc k) (suc-le-suc l)))))
 
-one-sum : (t : Table) (p : ℕ) (b : Bool) (r : Refusal) → OnlyFor4 r → OnlyFor4 (cond b r (Sum t p))
+one-sum : (t : Table) (p : ℕ) (b : Bool) (r : Refusal) → OnlyFor4 r → OnlyFor4 (cond b r (SumOutside t p))
 one-sum t p true r f = f
 one-sum t p false r f = λ e. refl
 
@@ -102,7 +102,7 @@ refused-with-4 w e =
 abbrev pub returning : ℕ → ℕ
 returning n = cond (eqb n 0x11) 0x7FFF (cond (leb 0x12 n) (cond (ltb n 0x18) 0x1111 (cond (ltb n 0x20) 0xFFFF 0)) 0)
 
-pub once-refused : firstOutside (runningWalk returning) ≡ Sum Offset 0
+pub once-refused : firstOutside (runningWalk returning) ≡ SumOutside Offset 0
 unfolding runningWalk stepsFrom runningSteps runningBulk firstOutside in16 rowSum columnSum wholeSum ktaSum
 once-refused = refl
 

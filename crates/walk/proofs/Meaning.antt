@@ -9,7 +9,7 @@ use Prim.Native.Nat.{ℕ, zero, suc, _+_, _/_, _%_, _<_}
 use native.Mathlib.Omega.{arith}
 use Rattle.refusal.specs.declared.Table.{Table}
 use Rattle.refusal.specs.declared.Table.the-variants.{Offset, Alpha, Kta}
-use Rattle.refusal.specs.declared.Refusal.the-variants.{None, Sum}
+use Rattle.refusal.specs.declared.Refusal.the-variants.{None, SumOutside}
 use Rattle.util.specs.Sums.{in16}
 use Rattle.steps.specs.Steps.{Step, term, sum, refusalIn, firstOutside, stepsFrom, AllInside, FirstIs}
 use Rattle.steps.proofs.Meaning.{accepted-inside, inside-accepted}
@@ -99,11 +99,11 @@ module _ (w : ℕ → ℕ) where
       named-joined (tableSteps w Offset) (tableSteps w Alpha ++ tableSteps w Kta) (named-from Offset 768 0)
       (named-joined (tableSteps w Alpha) (tableSteps w Kta) (named-from Alpha 768 0) (named-from Kta 768 0))
 
-  pub final-sum : (t : Table) (p : ℕ) (f : FirstIs (walk w) (Sum t p)) → Final t p (f .step)
+  pub final-sum : (t : Table) (p : ℕ) (f : FirstIs (walk w) (SumOutside t p)) → Final t p (f .step)
   unfolding Named
   final-sum t p f = go (f .step) (f .refuses) (named-in (f .before) (f .step) (f .after) (subst AllNamed (f .split) named-walk))
     where
-      go : (s : Step) → refusalIn s ≡ Sum t p → Named s → Final t p s
+      go : (s : Step) → refusalIn s ≡ SumOutside t p → Named s → Final t p s
       go (term u q z) e n = let z : _≡_ {A = ℕ} 0 1 = cc in absurd (omega arith)
       go (sum u q z) e n =
           let table : u ≡ t = cc in

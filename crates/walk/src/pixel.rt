@@ -30,7 +30,7 @@ fn offset_pixel(words: &[u16; 832], p: usize) -> Refusal
     let own = remainder_term(words, OFFSET_COMPENSATION, 10, 6, p);
     first_of(
         Table::Offset,
-        p,
+        p as u32,
         row,
         column,
         own,
@@ -46,7 +46,7 @@ fn alpha_pixel(words: &[u16; 832], p: usize) -> Refusal
     let row = bulk_term(words, SENSITIVITY_SCALE, ROWS, 8, p / 32);
     let column = bulk_term(words, SENSITIVITY_SCALE, COLUMNS, 4, p % 32);
     let own = remainder_term(words, SENSITIVITY_SCALE, 4, 6, p);
-    first_of(Table::Alpha, p, row, column, own, 0)
+    first_of(Table::Alpha, p as u32, row, column, own, 0)
 }
 
 // The first fault of pixel p of the Kta table, which has no row and no column term.
@@ -56,7 +56,7 @@ fn k_ta_pixel(words: &[u16; 832], p: usize) -> Refusal
 {
     let average = k_ta_average(words, p) as i32;
     let own = remainder_term(words, V_AND_TA_SCALE, 1, 3, p);
-    first_of(Table::Kta, p, 0, 0, own, average + own)
+    first_of(Table::Kta, p as u32, 0, 0, own, average + own)
 }
 
 // The first fault of pixel p of a table.

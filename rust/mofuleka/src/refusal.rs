@@ -12,7 +12,7 @@ use std::fmt;
 /// image[2 * 0x13..][..2].copy_from_slice(&0x0010u16.to_be_bytes()); // 0x2413, row 5
 /// let refusal = Calibration::from_data(&image).unwrap_err();
 /// assert_eq!((refusal.number(), refusal.table(), refusal.place()), (4, 0, 160));
-/// assert_eq!(refusal.reason(), Reason::SumOutsideRange);
+/// assert_eq!(refusal.reason(), Reason::SumOutside);
 /// assert_eq!(refusal.to_string(), "offset table, pixel 160: the final sum leaves 16 bits (refusal 4)");
 /// ```
 #[derive(Clone, Copy, Debug, Eq, Hash, PartialEq)]
@@ -27,13 +27,13 @@ pub struct Refusal {
 #[non_exhaustive]
 pub enum Reason {
     /// 1: the image has fewer than 1,664 bytes.
-    ShortImage,
+    ImageLength,
     /// 2: a lent slice is too short for what goes into it.
     ShortSlice,
     /// 3: a scaled term is outside 16 bits; table and pixel are given.
-    TermOutsideRange,
+    TermOutside,
     /// 4: the final sum of an offset or of Kta is outside 16 bits; table and pixel are given.
-    SumOutsideRange,
+    SumOutside,
     /// 5: the block has under 2 bytes, or not as many as its length field says.
     BlockLength,
     /// 6: the block's length field is below 5, above 131, or even.
@@ -84,10 +84,10 @@ impl Refusal {
     /// What the number stands for.
     pub fn reason(&self) -> Reason {
         match self.number {
-            1 => Reason::ShortImage,
+            1 => Reason::ImageLength,
             2 => Reason::ShortSlice,
-            3 => Reason::TermOutsideRange,
-            4 => Reason::SumOutsideRange,
+            3 => Reason::TermOutside,
+            4 => Reason::SumOutside,
             5 => Reason::BlockLength,
             6 => Reason::BlockCount,
             7 => Reason::BlockVersion,
@@ -114,12 +114,12 @@ impl Refusal {
 impl fmt::Display for Refusal {
     fn fmt(&self, f: &mut fmt::Formatter<'_>) -> fmt::Result {
         match self.reason() {
-            Reason::ShortImage => write!(f, "the image is shorter than 1664 bytes")?,
+            Reason::ImageLength => write!(f, "the image is shorter than 1664 bytes")?,
             Reason::ShortSlice => write!(f, "a slice is too short for what goes into it")?,
-            Reason::TermOutsideRange => {
+            Reason::TermOutside => {
                 write!(f, "{} table, pixel {}: a scaled term is outside 16 bits", self.table_name(), self.place)?
             }
-            Reason::SumOutsideRange => {
+            Reason::SumOutside => {
                 write!(f, "{} table, pixel {}: the final sum leaves 16 bits", self.table_name(), self.place)?
             }
             Reason::BlockLength => write!(f, "the block does not have as many bytes as it says")?,

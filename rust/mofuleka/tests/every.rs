@@ -184,7 +184,7 @@ fn image_refusals() {
     for short in [0, 1, 830, 831, 1662, 1663] {
         let refusal = Calibration::from_data(&vec![0; short]).unwrap_err();
         assert_eq!(parts(refusal), (1, 0, 0));
-        assert_eq!(refusal.reason(), Reason::ShortImage);
+        assert_eq!(refusal.reason(), Reason::ImageLength);
     }
     assert_eq!(refusal(&[(0x2410, 0x0F00), (0x2412, 0x0001)]), (3, 0, 0));
     assert_eq!(refusal(&[(0x2410, 0x0F00), (0x2412, 0x0002)]), (3, 0, 0));
