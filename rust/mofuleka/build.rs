@@ -13,17 +13,13 @@ fn fail(message: String) -> ! {
 fn built_at(root: &Path) -> PathBuf {
     println!("cargo:rerun-if-changed={}", root.join("crates").display());
     println!("cargo:rerun-if-changed={}", root.join("crates.txt").display());
-    let status = Command::new("rt")
-        .args(["staticlib", "mofuleka"])
-        .current_dir(root)
-        .status();
+    let status = Command::new("rt").args(["staticlib", "mofuleka"]).current_dir(root).status();
     match status {
         Ok(status) if status.success() => root.join("target/staticlib/libmofuleka.a"),
         Ok(status) => fail(format!("rt staticlib mofuleka failed: {}", status)),
-        Err(error) => fail(format!(
-            "rt could not be run ({}); set MOFULEKA_ARCHIVE to the path of libmofuleka.a",
-            error
-        )),
+        Err(error) => {
+            fail(format!("rt could not be run ({}); set MOFULEKA_ARCHIVE to the path of libmofuleka.a", error))
+        }
     }
 }
 

@@ -32,7 +32,8 @@ impl Lent {
     }
 
     fn gathered(&mut self, gathering: &[u8]) -> u64 {
-        match lent::gathering_from_data(gathering, &mut self.offset, &mut self.alpha, &mut self.k_ta, &mut self.record) {
+        match lent::gathering_from_data(gathering, &mut self.offset, &mut self.alpha, &mut self.k_ta, &mut self.record)
+        {
             Ok(()) => u64::from(self.record[0]),
             Err(refusal) => u64::from(refusal.number()),
         }
@@ -282,10 +283,7 @@ fn main() {
         });
     }
     println!("{} rounds; the crate's from_data and each case in turn, best of all rounds", rounds);
-    println!(
-        "{:<38} {:>10} {:>10} {:>8}   {:>17}",
-        "case", "crate ns", "ns", "ratio", "ratio in a round"
-    );
+    println!("{:<38} {:>10} {:>10} {:>8}   {:>17}", "case", "crate ns", "ns", "ratio", "ratio in a round");
     for (name, theirs, line) in out {
         println!(
             "{:<38} {:>10.0} {:>10.1} {:>8.3}   {:>7.3} .. {:<7.3}",

@@ -17,9 +17,8 @@ fn listing(image: &[u8]) -> String {
     let judge = Release::decode(image).answer().expect("the original crate takes an accepted image");
     let record = judge.record();
     let whole = |at: usize| i16::from_be_bytes([record[at], record[at + 1]]).to_string();
-    let float = |at: usize| {
-        format!("{:08X}", u32::from_be_bytes([record[at], record[at + 1], record[at + 2], record[at + 3]]))
-    };
+    let float =
+        |at: usize| format!("{:08X}", u32::from_be_bytes([record[at], record[at + 1], record[at + 2], record[at + 3]]));
     let wholes = |at: usize, count: usize| (0..count).map(|i| whole(at + 2 * i)).collect::<Vec<_>>().join(" ");
     let floats = |at: usize, count: usize| (0..count).map(|i| float(at + 4 * i)).collect::<Vec<_>>().join(" ");
     let gradient = if record[89] == 0 { "none".to_string() } else { float(90) };

@@ -296,9 +296,8 @@ fn decode(tally: &mut Tally, bench: &mut Bench, gathering: &Lent, history: &Hist
         }
     };
     let bytes = gathering.bytes();
-    let ours = bench.lend(tally, FULL, |offset, alpha, k_ta, record| {
-        lent::gathering_from_data(bytes, offset, alpha, k_ta, record)
-    });
+    let ours = bench
+        .lend(tally, FULL, |offset, alpha, k_ta, record| lent::gathering_from_data(bytes, offset, alpha, k_ta, record));
     tally.same(held, name, ours, expected);
     if ours.is_ok() && expected.is_ok() {
         tally.accepted();

@@ -171,9 +171,7 @@ macro_rules! judge {
                     for pixel in [0, 1, 3, 32, 33, 35] {
                         put(&bits(six[pixel]));
                     }
-                    put(&bits(
-                        self.access_pattern_compensation_cp(Subpage::One, AccessPattern::Interleave).unwrap(),
-                    ));
+                    put(&bits(self.access_pattern_compensation_cp(Subpage::One, AccessPattern::Interleave).unwrap()));
                     assert_eq!(at, 122);
                     record
                 }

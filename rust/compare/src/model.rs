@@ -245,8 +245,7 @@ pub fn k_ta_scale(image: &[u8]) -> i64 {
 /// All of an accepted image.
 pub fn decode(image: &[u8]) -> Result<Decoded, Refused> {
     let tables = verdict(image)?;
-    let mut decoded =
-        Decoded { record: record(image), offset: [0; PIXELS], alpha: [0.0; PIXELS], k_ta: [0.0; PIXELS] };
+    let mut decoded = Decoded { record: record(image), offset: [0; PIXELS], alpha: [0.0; PIXELS], k_ta: [0.0; PIXELS] };
     for pixel in 0..PIXELS {
         decoded.offset[pixel] = tables[0][pixel] as i16;
         decoded.alpha[pixel] = over(tables[1][pixel], alpha_scale(image));

@@ -178,13 +178,12 @@ fn ranges(tally: &mut Tally, pattern: u32, subpage: u32) {
             None if known => Err(refused(12)),
             None => Err(refused(14)),
         };
-        let ours =
-            lent::pixel_range(pattern, subpage, number).map_err(refused_of).map(|(address, offset, length)| {
-                format!(
-                    "PixelAddressRange {{ start_address: Address({:#X}), buffer_offset: {}, length: {} }}",
-                    address, offset, length
-                )
-            });
+        let ours = lent::pixel_range(pattern, subpage, number).map_err(refused_of).map(|(address, offset, length)| {
+            format!(
+                "PixelAddressRange {{ start_address: Address({:#X}), buffer_offset: {}, length: {} }}",
+                address, offset, length
+            )
+        });
         tally.same(held_to(&expected), || format!("range {} {} {}", pattern, subpage, number), ours, expected);
     }
 }

@@ -49,9 +49,7 @@ fn besides(part: &Part) -> String {
 }
 
 fn by_part(tally: &Tally) {
-    println!(
-        "The same by parts. 'distinct' counts images with the same bytes once; the other names are those above:"
-    );
+    println!("The same by parts. 'distinct' counts images with the same bytes once; the other names are those above:");
     let line = |cells: [String; 7], besides: &str| {
         let [name, images, distinct, accepted, of_crate, bytes, different] = cells;
         println!(

@@ -78,9 +78,7 @@ impl Calibration {
     }
 
     pub(crate) fn from_gathering(gathering: &[u8]) -> Result<Self, Refusal> {
-        Self::filled(|l| {
-            lent::gathering_from_data(gathering, &mut l.offset, &mut l.alpha, &mut l.k_ta, &mut l.record)
-        })
+        Self::filled(|l| lent::gathering_from_data(gathering, &mut l.offset, &mut l.alpha, &mut l.k_ta, &mut l.record))
     }
 
     fn filled(fill: impl FnOnce(&mut Lent) -> Result<(), Refusal>) -> Result<Self, Refusal> {
@@ -244,9 +242,7 @@ impl Calibration {
         let table = self.corrections[access_pattern as usize].get(|| {
             let mut table = Box::new([None; PIXELS]);
             for (pixel, entry) in table.iter_mut().enumerate() {
-                *entry = self
-                    .access_pattern_compensation_pixel(pixel, access_pattern)
-                    .expect("a pixel below 768");
+                *entry = self.access_pattern_compensation_pixel(pixel, access_pattern).expect("a pixel below 768");
             }
             table
         });

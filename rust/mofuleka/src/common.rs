@@ -52,10 +52,7 @@ pub trait CalibrationData<'a> {
     fn temperature_gradient_coefficient(&self) -> Option<f32>;
 
     type AccessPatternCompensation: Iterator<Item = Option<&'a f32>>;
-    fn access_pattern_compensation_pixels(
-        &'a self,
-        access_pattern: AccessPattern,
-    ) -> Self::AccessPatternCompensation;
+    fn access_pattern_compensation_pixels(&'a self, access_pattern: AccessPattern) -> Self::AccessPatternCompensation;
     fn access_pattern_compensation_cp(&self, subpage: Subpage, access_pattern: AccessPattern) -> Option<f32>;
 }
 

@@ -204,9 +204,7 @@ pub fn interleave_correction_pixel(record: &[u8], pattern: u32, pixel: usize) ->
 /// The correction of the subpage's compensation pixel, from a record's bytes. Refusals: 14, 2.
 pub fn interleave_correction_cp(record: &[u8], pattern: u32, subpage: u32) -> Result<Option<f32>, Refusal> {
     // SAFETY: as in `from_data`.
-    taken_correction(unsafe {
-        sys::mofuleka_interleave_correction_cp(record.as_ptr(), record.len(), pattern, subpage)
-    })
+    taken_correction(unsafe { sys::mofuleka_interleave_correction_cp(record.as_ptr(), record.len(), pattern, subpage) })
 }
 
 /// Alpha of the subpage's compensation pixel, from a record's bytes. Refusals: 14, 2.

@@ -66,12 +66,7 @@ extern "C" {
         pattern: u32,
         pixel: usize,
     ) -> u64;
-    pub fn mofuleka_interleave_correction_cp(
-        record: *const u8,
-        record_len: usize,
-        pattern: u32,
-        subpage: u32,
-    ) -> u64;
+    pub fn mofuleka_interleave_correction_cp(record: *const u8, record_len: usize, pattern: u32, subpage: u32) -> u64;
     pub fn mofuleka_alpha_cp(record: *const u8, record_len: usize, subpage: u32) -> u64;
     pub fn mofuleka_offset_reference_cp(record: *const u8, record_len: usize, subpage: u32) -> u64;
 }

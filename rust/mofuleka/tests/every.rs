@@ -107,13 +107,7 @@ fn readings() {
     assert_eq!((c.k_v_dd(), c.v_dd_25()), (-3168, -13056));
     let c = calibration(&[(0x2410, 0x0F00), (0x2412, 0x000F)]);
     assert!(c.offset_reference_pixels(Subpage::Zero).take(32).all(|x| *x == -32768));
-    let c = calibration(&[
-        (0x2410, 0x4210),
-        (0x2411, 0xFFC0),
-        (0x2412, 0x000F),
-        (0x2418, 0x0007),
-        (0x2440, 0xFC0E),
-    ]);
+    let c = calibration(&[(0x2410, 0x4210), (0x2411, 0xFFC0), (0x2412, 0x000F), (0x2418, 0x0007), (0x2440, 0xFC0E)]);
     assert_eq!(c.offset_reference_pixels(Subpage::Zero).next(), Some(&-55));
     assert_eq!(c.alpha_ptat(), 9.0);
     let c = calibration(&[(0x2420, 0x7000), (0x2421, 0x2000)]);
@@ -550,10 +544,7 @@ fn numbers_and_orders_of_the_interface() {
         }
     }
     assert_eq!(calibration(&[]).k_v_pixel(768).unwrap_err().number(), 11);
-    assert_eq!(
-        calibration(&[]).access_pattern_compensation_pixel(768, AccessPattern::Chess).unwrap_err().number(),
-        11
-    );
+    assert_eq!(calibration(&[]).access_pattern_compensation_pixel(768, AccessPattern::Chess).unwrap_err().number(), 11);
     let mut long = record.to_vec();
     long.push(0);
     assert_eq!(lent::interleave_correction_pixel(&long, 0, 3), Ok(Some(-0.625)));
@@ -641,7 +632,8 @@ fn names_of_the_original_crate() {
     use mofuleka::mlx90640::Mlx90640Calibration;
     let calibration = Mlx90640Calibration::from_data(&image(&[])).unwrap();
     assert_eq!(calibration.alpha_ptat(), 8.0);
-    let _: mofuleka::common::Address = mofuleka::mlx90640::Mlx90640::compensation_pixel(mofuleka::register::Subpage::One);
+    let _: mofuleka::common::Address =
+        mofuleka::mlx90640::Mlx90640::compensation_pixel(mofuleka::register::Subpage::One);
 }
 
 #[test]
