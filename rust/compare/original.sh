@@ -1,10 +1,14 @@
 # Sourced by the scripts here: the original crate's files in target/original, unchanged, with the root that declares them.
 
-source_folder=${MLX9064X_SRC:-$root/../shared/docs/src}
-# The folder of the crate, or its src folder itself.
+original_needed='set MLX9064X_SRC to the folder of the unpacked crates.io package mlx9064x 0.2.1, or to its src folder'
+if [ -z "${MLX9064X_SRC:-}" ]; then
+  say "nothing is compared: $original_needed"
+  exit 2
+fi
+source_folder=$MLX9064X_SRC
 [ -d "$source_folder/src/mlx90640" ] && source_folder=$source_folder/src
 if [ ! -f "$source_folder/mlx90640/eeprom.rs" ]; then
-  say "nothing is compared: the original crate's source is not at $source_folder; set MLX9064X_SRC"
+  say "nothing is compared: MLX9064X_SRC is $MLX9064X_SRC, and mlx90640/eeprom.rs is not there; $original_needed"
   exit 2
 fi
 
