@@ -6,22 +6,27 @@
 use std::env;
 use std::time::Instant;
 
-use compare::images;
+use compare::images::{self, Image};
 use compare::judge::{Judge, Release};
 use compare::model;
 use mlx9064x_release::CalibrationData;
-use mofuleka::{lent, Calibration, Gathering};
+use mofuleka::{lent, Calibration, Gathering, Refusal};
 
 struct Lent {
-    offset: [u8; 1536],
-    alpha: [u8; 3072],
-    k_ta: [u8; 3072],
-    record: [u8; 122],
+    offset: [u8; lent::OFFSET_TABLE_BYTES],
+    alpha: [u8; lent::ALPHA_TABLE_BYTES],
+    k_ta: [u8; lent::K_TA_TABLE_BYTES],
+    record: [u8; lent::RECORD_BYTES],
 }
 
 impl Lent {
     fn new() -> Self {
-        Self { offset: [0; 1536], alpha: [0; 3072], k_ta: [0; 3072], record: [0; 122] }
+        Self {
+            offset: [0; lent::OFFSET_TABLE_BYTES],
+            alpha: [0; lent::ALPHA_TABLE_BYTES],
+            k_ta: [0; lent::K_TA_TABLE_BYTES],
+            record: [0; lent::RECORD_BYTES],
+        }
     }
 
     fn decode(&mut self, image: &[u8]) -> u64 {
@@ -60,16 +65,17 @@ struct Own {
     offset: [i16; 768],
     alpha: [f32; 768],
     k_ta: [f32; 768],
-    record: [u8; 122],
+    record: [u8; lent::RECORD_BYTES],
 }
 
 impl Own {
     fn new() -> Self {
-        Self { offset: [0; 768], alpha: [0.0; 768], k_ta: [0.0; 768], record: [0; 122] }
+        Self { offset: [0; 768], alpha: [0.0; 768], k_ta: [0.0; 768], record: [0; lent::RECORD_BYTES] }
     }
 
     fn decode(&mut self, image: &[u8]) -> u64 {
-        // Each pointer is valid for the length beside it, and no two slices overlap.
+        // SAFETY: each pointer is a slice's or an array's, with its own number of entries; the four that are written are parts of one
+        // exclusive borrow, so they overlap neither each other nor the image.
         let number = unsafe {
             speed_from_data(
                 image.as_ptr(),
@@ -98,7 +104,7 @@ fn past_the_bound(image: &[u8]) -> [bool; 3] {
     [offset, alpha, 128 + own(0x2438, 4)].map(|reach| reach > 32767)
 }
 
-/// What a case must answer: accepted with the crate's numbers, or a refusal.
+/// Number, table and place of the refusal that an image gets; no number but 0 where it is accepted.
 fn refused(image: &[u8]) -> (u8, u8, usize) {
     match Calibration::from_data(image) {
         Ok(_) => (0, 0, 0),
@@ -151,12 +157,49 @@ fn against(
     (bests.0, Line { best: bests.1, ratio: bests.1 / bests.0, low, high })
 }
 
-fn main() {
-    let rounds = env::args().nth(1).and_then(|text| text.parse().ok()).unwrap_or(15);
-    let mut sink = 0;
-    let lifelike = images::lifelike(1);
-    // Accepted, but with terms that a bound from the extremes can't clear, in all three tables: row terms of -32768, and of Kta
-    // remainders that could come to that.
+/// The images that are timed.
+struct Images {
+    lifelike: Image,
+    /// Accepted, but with terms that a bound from the extremes can't clear, in all three tables.
+    past: Image,
+    /// Refused at the first pixel, at the last offset and at the last Kta.
+    first: Image,
+    last: Image,
+    k_ta: Image,
+}
+
+impl Images {
+    fn new() -> Self {
+        let lifelike = images::lifelike(1);
+        let mut first = lifelike;
+        images::set(&mut first, 0x2410, 0x4F10);
+        images::set(&mut first, 0x2412, 0x0001);
+        let mut last = lifelike;
+        images::set(&mut last, 0x2410, 0x421B);
+        in_last_pixel(&mut last, 0x03FF, 0x4000);
+        let mut k_ta = lifelike;
+        images::set(&mut k_ta, 0x2438, 0x236F);
+        in_last_pixel(&mut k_ta, 0xFFF1, 0x0002);
+        Self { lifelike, past: past_of(lifelike), first, last, k_ta }
+    }
+
+    /// Holds each to what it must be: where the bound is, and accepted with the crate's numbers or a refusal.
+    fn check(&self) {
+        assert_eq!(past_the_bound(&self.lifelike), [false; 3]);
+        assert_eq!(past_the_bound(&self.past), [true; 3]);
+        assert_eq!(refused(&self.lifelike), (0, 0, 0));
+        assert_eq!(refused(&self.past), (0, 0, 0));
+        assert_eq!(refused(&self.first), (3, 0, 0));
+        assert_eq!(refused(&self.last), (3, 0, 767));
+        assert_eq!(refused(&self.k_ta), (3, 2, 767));
+        for image in [&self.lifelike, &self.past] {
+            has_the_crates_numbers(image);
+        }
+    }
+}
+
+/// Row terms of -32768, and of Kta remainders that could come to that.
+fn past_of(lifelike: Image) -> Image {
     let mut past = lifelike;
     images::set(&mut past, 0x2410, 0x4F10);
     images::set(&mut past, 0x2420, 0x7F16);
@@ -176,120 +219,143 @@ fn main() {
     for pixel in 32..64 {
         images::set(&mut past, 0x2440 + pixel, 0x0000);
     }
-    let mut first = lifelike;
-    images::set(&mut first, 0x2410, 0x4F10);
-    images::set(&mut first, 0x2412, 0x0001);
-    let mut last = lifelike;
-    images::set(&mut last, 0x2410, 0x421B);
-    for address in 0x2440..0x2740 {
-        let word = images::get(&last, address) & 0x03FF;
-        images::set(&mut last, address, word);
-    }
-    let word = images::get(&last, 0x273F) | 0x4000;
-    images::set(&mut last, 0x273F, word);
-    let mut k_ta = lifelike;
-    images::set(&mut k_ta, 0x2438, 0x236F);
-    for address in 0x2440..0x2740 {
-        let word = images::get(&k_ta, address) & 0xFFF1;
-        images::set(&mut k_ta, address, word);
-    }
-    let word = images::get(&k_ta, 0x273F) | 0x0002;
-    images::set(&mut k_ta, 0x273F, word);
-    assert_eq!(past_the_bound(&lifelike), [false; 3]);
-    assert_eq!(past_the_bound(&past), [true; 3]);
-    assert_eq!(refused(&lifelike), (0, 0, 0));
-    assert_eq!(refused(&past), (0, 0, 0));
-    assert_eq!(refused(&first), (3, 0, 0));
-    assert_eq!(refused(&last), (3, 0, 767));
-    assert_eq!(refused(&k_ta), (3, 2, 767));
-    for image in [&lifelike, &past] {
-        let mut l = Lent::new();
-        l.decode(image);
-        let judge = Release::decode(image).answer().expect("the crate takes it");
-        assert!(l.record == judge.record());
-        assert!(l.offset.chunks_exact(2).zip(judge.offset()).all(|(b, x)| b == x.to_be_bytes()));
-        assert!(l.alpha.chunks_exact(4).zip(judge.alpha()).all(|(b, x)| b == x.to_bits().to_be_bytes()));
-        assert!(l.k_ta.chunks_exact(4).zip(judge.k_ta()).all(|(b, x)| b == x.to_bits().to_be_bytes()));
-        let mut own = Own::new();
-        own.decode(image);
-        assert!(own.record == judge.record());
-        assert!(own.offset.iter().zip(judge.offset()).all(|(a, b)| a == b));
-        assert!(own.alpha.iter().zip(judge.alpha()).all(|(a, b)| a.to_bits() == b.to_bits()));
-        assert!(own.k_ta.iter().zip(judge.k_ta()).all(|(a, b)| a.to_bits() == b.to_bits()));
-    }
+    past
+}
 
-    let mut full = Gathering::new();
-    let mut blocks = Vec::new();
-    for start in (0..832usize).step_by(64) {
-        let mut block = vec![0, 131, 1, (start / 256) as u8, start as u8];
-        block.extend_from_slice(&lifelike[2 * start..2 * start + 128]);
-        full.accept(&block).expect("a good block");
-        blocks.push(block);
+/// Leaves some bits of every pixel's word, and sets some of the last one's.
+fn in_last_pixel(image: &mut Image, left: u16, set: u16) {
+    for address in 0x2440..0x2740 {
+        let word = images::get(image, address) & left;
+        images::set(image, address, word);
     }
-    assert!(full.status().is_full());
-    let mut half = Gathering::new();
-    for block in blocks.iter().step_by(2) {
-        half.accept(block).expect("a good block");
-    }
+    let word = images::get(image, 0x273F) | set;
+    images::set(image, 0x273F, word);
+}
 
-    let base_image = lifelike;
-    let mut base = |_: u64| crate_decodes(&base_image);
+/// What the library decodes, into bytes and into tables of its own, is what the crate does.
+fn has_the_crates_numbers(image: &Image) {
+    let judge = Release::decode(image).answer().expect("the crate takes it");
     let mut l = Lent::new();
-    let mut out = Vec::new();
-    {
-        let mut case = |name: &'static str, call: &mut dyn FnMut(u64) -> u64| {
-            let (theirs, line) = against(rounds, &mut base, call, &mut sink);
-            out.push((name, theirs, line));
-        };
-        case("the crate against itself", &mut |_| crate_decodes(&lifelike));
-        case("decode, lifelike", &mut |_| l.decode(&lifelike));
-        let mut own = Own::new();
-        case("decode, lifelike, own tables", &mut |_| own.decode(&lifelike));
-        case("decode, accepted past the bound", &mut |_| l.decode(&past));
-        case("decode, refused at the first pixel", &mut |_| l.decode(&first));
-        case("decode, refused at the last offset", &mut |_| l.decode(&last));
-        case("decode, refused at the last Kta", &mut |_| l.decode(&k_ta));
-        case("decode, refused as short", &mut |_| l.decode(&lifelike[..1663]));
-        case("Calibration::from_data, lifelike", &mut |_| {
-            Calibration::from_data(&lifelike).map(|c| c.k_v_dd() as u64).unwrap_or(0)
+    l.decode(image);
+    assert!(l.record == judge.record());
+    assert!(l.offset.chunks_exact(2).zip(judge.offset()).all(|(b, x)| b == x.to_be_bytes()));
+    assert!(l.alpha.chunks_exact(4).zip(judge.alpha()).all(|(b, x)| b == x.to_bits().to_be_bytes()));
+    assert!(l.k_ta.chunks_exact(4).zip(judge.k_ta()).all(|(b, x)| b == x.to_bits().to_be_bytes()));
+    let mut own = Own::new();
+    own.decode(image);
+    assert!(own.record == judge.record());
+    assert!(own.offset.iter().zip(judge.offset()).all(|(a, b)| a == b));
+    assert!(own.alpha.iter().zip(judge.alpha()).all(|(a, b)| a.to_bits() == b.to_bits()));
+    assert!(own.k_ta.iter().zip(judge.k_ta()).all(|(a, b)| a.to_bits() == b.to_bits()));
+}
+
+/// An image in blocks of 64 words.
+fn blocks_of(image: &Image) -> Vec<Vec<u8>> {
+    let block = |start: usize| {
+        let mut block = vec![0, 131, 1, (start / 256) as u8, start as u8];
+        block.extend_from_slice(&image[2 * start..2 * start + 128]);
+        block
+    };
+    (0..832).step_by(64).map(block).collect()
+}
+
+fn gathered<'a>(blocks: impl Iterator<Item = &'a Vec<u8>>) -> Gathering {
+    let mut gathering = Gathering::new();
+    blocks.for_each(|block| gathering.accept(block).expect("a good block"));
+    gathering
+}
+
+/// The cases that have been timed: name, the crate's best time beside it, its own.
+struct Timed<'a> {
+    rounds: usize,
+    base: &'a Image,
+    sink: u64,
+    lines: Vec<(&'static str, f64, Line)>,
+}
+
+impl Timed<'_> {
+    fn case(&mut self, name: &'static str, call: &mut dyn FnMut(u64) -> u64) {
+        let base = self.base;
+        let (theirs, line) = against(self.rounds, &mut |_| crate_decodes(base), call, &mut self.sink);
+        self.lines.push((name, theirs, line));
+    }
+
+    fn decodings(&mut self, images: &Images) {
+        let (mut l, mut own) = (Lent::new(), Own::new());
+        let lifelike = &images.lifelike;
+        self.case("the crate against itself", &mut |_| crate_decodes(lifelike));
+        self.case("decode, lifelike", &mut |_| l.decode(lifelike));
+        self.case("decode, lifelike, own tables", &mut |_| own.decode(lifelike));
+        self.case("decode, accepted past the bound", &mut |_| l.decode(&images.past));
+        self.case("decode, refused at the first pixel", &mut |_| l.decode(&images.first));
+        self.case("decode, refused at the last offset", &mut |_| l.decode(&images.last));
+        self.case("decode, refused at the last Kta", &mut |_| l.decode(&images.k_ta));
+        self.case("decode, refused as short", &mut |_| l.decode(&lifelike[..1663]));
+        self.case("Calibration::from_data, lifelike", &mut |_| {
+            Calibration::from_data(lifelike).map(|c| c.k_v_dd() as u64).unwrap_or(0)
         });
+    }
+
+    fn gatherings(&mut self, image: &Image) {
+        let blocks = blocks_of(image);
+        let (full, half) = (gathered(blocks.iter()), gathered(blocks.iter().step_by(2)));
+        assert!(full.status().is_full());
         let mut lent = *Gathering::new().as_bytes();
-        case("accept of a 64-word block", &mut |i| {
+        self.case("accept of a 64-word block", &mut |i| {
             lent::gathering_accept(&mut lent, &blocks[i as usize % 13]).map(|()| 0).unwrap_or(1)
         });
         let mut lent = *full.as_bytes();
-        case("merge of two gatherings", &mut |_| {
+        self.case("merge of two gatherings", &mut |_| {
             lent::gathering_merge(&mut lent, half.as_bytes()).map(|()| 0).unwrap_or(1)
         });
-        case("status of a gathering", &mut |_| {
+        self.case("status of a gathering", &mut |_| {
             lent::gathering_status(full.as_bytes()).map(|(missing, _)| missing as u64).unwrap_or(1)
         });
-        case("decode of a full gathering", &mut |_| l.gathered(full.as_bytes()));
-        let calibration = Calibration::from_data(&lifelike).expect("accepted above");
-        let record = *calibration.record();
-        case("one pixel: Kv, correction, mask", &mut |i| {
+        let mut l = Lent::new();
+        self.case("decode of a full gathering", &mut |_| l.gathered(full.as_bytes()));
+    }
+
+    fn questions(&mut self, image: &Image) {
+        let record = *Calibration::from_data(image).expect("an accepted image").record();
+        let bits =
+            |answer: Result<Option<f32>, Refusal>| u64::from(answer.ok().flatten().map(f32::to_bits).unwrap_or(0));
+        self.case("one pixel: Kv, correction, mask", &mut |i| {
             let pixel = i as usize % 768;
             let k_v = lent::k_v_pixel(&record, pixel).map(f32::to_bits).unwrap_or(0);
             let correction = lent::interleave_correction_pixel(&record, 0, pixel);
             let mask = lent::pixel_in_subpage(1, 0, pixel).unwrap_or(false);
-            u64::from(k_v) + u64::from(mask) + u64::from(correction.ok().flatten().map(f32::to_bits).unwrap_or(0))
+            u64::from(k_v) + u64::from(mask) + bits(correction)
         });
-        case("compensation pixel's questions", &mut |i| {
+        self.case("compensation pixel's questions", &mut |i| {
             let subpage = i as u32 % 2;
             let alpha = lent::alpha_cp(&record, subpage).map(f32::to_bits).unwrap_or(0);
             let offset = lent::offset_reference_cp(&record, subpage).unwrap_or(0);
             let correction = lent::interleave_correction_cp(&record, 0, subpage);
-            u64::from(alpha) + offset as u64 + u64::from(correction.ok().flatten().map(f32::to_bits).unwrap_or(0))
+            u64::from(alpha) + offset as u64 + bits(correction)
         });
     }
-    println!("{} rounds; the crate's from_data and each case in turn, best of all rounds", rounds);
-    println!("{:<38} {:>10} {:>10} {:>8}   {:>17}", "case", "crate ns", "ns", "ratio", "ratio in a round");
-    for (name, theirs, line) in out {
-        println!(
-            "{:<38} {:>10.0} {:>10.1} {:>8.3}   {:>7.3} .. {:<7.3}",
-            name, theirs, line.best, line.ratio, line.low, line.high
-        );
+
+    fn print(&self) {
+        println!("{} rounds; the crate's from_data and each case in turn, best of all rounds", self.rounds);
+        println!("{:<38} {:>10} {:>10} {:>8}   {:>17}", "case", "crate ns", "ns", "ratio", "ratio in a round");
+        for (name, theirs, line) in &self.lines {
+            println!(
+                "{:<38} {:>10.0} {:>10.1} {:>8.3}   {:>7.3} .. {:<7.3}",
+                name, theirs, line.best, line.ratio, line.low, line.high
+            );
+        }
     }
+}
+
+fn main() {
+    let rounds = env::args().nth(1).and_then(|text| text.parse().ok()).unwrap_or(15);
+    let images = Images::new();
+    images.check();
+    let mut timed = Timed { rounds, base: &images.lifelike, sink: 0, lines: Vec::new() };
+    timed.decodings(&images);
+    timed.gatherings(&images.lifelike);
+    timed.questions(&images.lifelike);
+    timed.print();
     // So that no call is without use.
-    assert!(sink != 1);
+    assert!(timed.sink != 1);
 }
