@@ -205,7 +205,7 @@ pub fn storm(tally: &mut Tally, bench: &mut Bench, seed: u64) {
         0 => images::tame(&mut numbers),
         1 => images::near(&mut numbers),
         2 => leaving::leaving(&mut numbers),
-        _ => images::lifelike(numbers.next()),
+        _ => images::lifelike(numbers.any()),
     };
     let long = numbers.below(3) as usize;
     let mut gatherings = [Lent::fresh(tally, 0), Lent::fresh(tally, long)];

@@ -9,7 +9,7 @@ impl Numbers {
         Self(seed)
     }
 
-    pub fn next(&mut self) -> u64 {
+    pub fn any(&mut self) -> u64 {
         self.0 = self.0.wrapping_add(0x9E37_79B9_7F4A_7C15);
         let mut z = self.0;
         z = (z ^ (z >> 30)).wrapping_mul(0xBF58_476D_1CE4_E5B9);
@@ -19,11 +19,11 @@ impl Numbers {
 
     /// A number below a bound.
     pub fn below(&mut self, bound: u64) -> u64 {
-        self.next() % bound
+        self.any() % bound
     }
 
     pub fn word(&mut self) -> u16 {
-        self.next() as u16
+        self.any() as u16
     }
 }
 
@@ -109,7 +109,7 @@ pub fn tame(numbers: &mut Numbers) -> Image {
         let average = numbers.below(16384) as i32 - 8192;
         set(&mut image, start + 1, average as u16);
     }
-    let w = numbers.next() as u16 & 0xFFF0 | numbers.below(13) as u16;
+    let w = numbers.any() as u16 & 0xFFF0 | numbers.below(13) as u16;
     set(&mut image, 0x2438, w);
     image
 }
@@ -149,7 +149,7 @@ pub fn near(numbers: &mut Numbers) -> Image {
             set(&mut image, address, word);
         }
     }
-    let w = numbers.next() as u16 & 0xFFF0 | (10 + numbers.below(5)) as u16;
+    let w = numbers.any() as u16 & 0xFFF0 | (10 + numbers.below(5)) as u16;
     set(&mut image, 0x2438, w);
     let dense = numbers.below(3) == 0;
     let pixels = if dense { 768 } else { numbers.below(8) };
@@ -181,7 +181,7 @@ pub fn sparse(numbers: &mut Numbers) -> Image {
 
 /// A lifelike image with some damage, of any length.
 pub fn damaged(numbers: &mut Numbers) -> Vec<u8> {
-    let mut image = lifelike(numbers.next()).to_vec();
+    let mut image = lifelike(numbers.any()).to_vec();
     for _ in 0..1 + numbers.below(4) {
         let len = image.len() as u64;
         match numbers.below(7) {

@@ -3,7 +3,7 @@ use std::cell::Cell;
 use std::panic::{self, AssertUnwindSafe};
 
 thread_local! {
-    static QUIET: Cell<bool> = Cell::new(false);
+    static QUIET: Cell<bool> = const { Cell::new(false) };
 }
 
 /// Panics of the original crate are answers here: they are counted, not printed.

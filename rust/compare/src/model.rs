@@ -244,14 +244,13 @@ pub fn k_ta_scale(image: &[u8]) -> i64 {
 
 /// All of an accepted image.
 pub fn decode(image: &[u8]) -> Result<Decoded, Refused> {
-    let tables = verdict(image)?;
-    let mut decoded = Decoded { record: record(image), offset: [0; PIXELS], alpha: [0.0; PIXELS], k_ta: [0.0; PIXELS] };
-    for pixel in 0..PIXELS {
-        decoded.offset[pixel] = tables[0][pixel] as i16;
-        decoded.alpha[pixel] = over(tables[1][pixel], alpha_scale(image));
-        decoded.k_ta[pixel] = over(tables[2][pixel], k_ta_scale(image));
-    }
-    Ok(decoded)
+    let [offset, alpha, k_ta] = verdict(image)?;
+    Ok(Decoded {
+        record: record(image),
+        offset: offset.map(|sum| sum as i16),
+        alpha: alpha.map(|sum| over(sum, alpha_scale(image))),
+        k_ta: k_ta.map(|sum| over(sum, k_ta_scale(image))),
+    })
 }
 
 /// What is wrong with a block, or its first word's number.
@@ -263,7 +262,7 @@ pub fn block(block: &[u8]) -> Result<usize, Refused> {
     if block.len() != l + 2 {
         return Err(refused(5));
     }
-    if l < 5 || l > 131 || l % 2 == 0 {
+    if !(5..=131).contains(&l) || l % 2 == 0 {
         return Err(refused(6));
     }
     if block[2] != 1 {

@@ -46,7 +46,11 @@ pub fn jobs(plan: Plan) -> Vec<Job> {
     jobs
 }
 
-const EVERY_WORD: [(&str, fn() -> Image); 2] =
+/// A part's name, and how its image is made.
+type Base = (&'static str, fn() -> Image);
+type Random = (&'static str, fn(&mut Numbers) -> Vec<u8>);
+
+const EVERY_WORD: [Base; 2] =
     [("each word over the zero image", || [0; 1664]), ("each word over a lifelike image", || images::lifelike(1))];
 
 /// Each word of 0x2410..0x243F by itself, the rest of the image staying as it is.
@@ -101,7 +105,7 @@ fn pixel_words(plan: Plan, jobs: &mut Vec<Job>) {
     }
 }
 
-const RANDOM: [(&str, fn(&mut Numbers) -> Vec<u8>); 5] = [
+const RANDOM: [Random; 5] = [
     ("random, wild", |numbers| images::wild(numbers).to_vec()),
     ("random, tame", |numbers| images::tame(numbers).to_vec()),
     ("random, near the limits", |numbers| images::near(numbers).to_vec()),

@@ -21,11 +21,12 @@ fn made_up() -> Vec<u8> {
     words[0x38] = 0x2363;
     words[0x3C] = 0xF020;
     let mut file = Vec::new();
-    for first in (0..13).rev().chain(std::iter::once(12)).map(|block| 64 * block) {
+    for block in (0..13u16).rev().chain(std::iter::once(12)) {
+        let first = 64 * block;
         file.extend_from_slice(&(3 + 2 * 64u16).to_be_bytes());
         file.push(1);
-        file.extend_from_slice(&(first as u16).to_be_bytes());
-        for word in &words[first..first + 64] {
+        file.extend_from_slice(&first.to_be_bytes());
+        for word in &words[usize::from(first)..][..64] {
             file.extend_from_slice(&word.to_be_bytes());
         }
     }
@@ -47,7 +48,7 @@ fn main() -> Result<(), Box<dyn Error>> {
         };
         let (block, after) = rest.split_at(said.min(rest.len()));
         if let Err(refusal) = gathering.accept(block) {
-            println!("block {}: {}", number, refusal);
+            println!("block {number}: {refusal}");
         }
         rest = after;
         number += 1;
@@ -58,11 +59,11 @@ fn main() -> Result<(), Box<dyn Error>> {
     let calibration = match gathering.calibration() {
         Ok(calibration) => calibration,
         Err(refusal) => {
-            println!("no calibration: {}", refusal);
+            println!("no calibration: {refusal}");
             return Ok(());
         }
     };
-    println!("{:#?}", calibration);
+    println!("{calibration:#?}");
     let offsets: Vec<i16> = calibration.offset_reference_pixels(Subpage::Zero).copied().collect();
     let alphas: Vec<f32> = calibration.alpha_pixels(Subpage::Zero).copied().collect();
     let k_tas: Vec<f32> = calibration.k_ta_pixels(Subpage::Zero).copied().collect();

@@ -1,5 +1,4 @@
 //! A calibration under the original crate's accessor names, over the record and the tables that the archive writes.
-use std::convert::TryFrom;
 use std::fmt;
 use std::slice;
 

@@ -1,5 +1,4 @@
 //! Blocks of an image gathered, merged, counted and decoded.
-use std::convert::TryFrom;
 use std::fmt;
 
 use crate::calibration::Calibration;

@@ -246,7 +246,7 @@ fn words_that_are_not_read() {
     assert_ne!(plain, calibration(&[]));
     assert!(format!("{:?}", plain).contains("k_v_dd: -3168"));
     let slice: &[u8] = &changed;
-    assert!(<Calibration as std::convert::TryFrom<&[u8]>>::try_from(slice).is_ok());
+    assert!(Calibration::try_from(slice).is_ok());
 }
 
 #[test]
@@ -397,7 +397,7 @@ fn stored_gatherings() {
     assert_eq!(merged.as_bytes()[..6], [0; 6]);
     assert_eq!(merged.as_bytes()[1664..1667], [0, 2, 2]);
     let slice: &[u8] = &bytes;
-    assert!(<Gathering as std::convert::TryFrom<&[u8]>>::try_from(slice).is_ok());
+    assert!(Gathering::try_from(slice).is_ok());
 }
 
 #[test]
