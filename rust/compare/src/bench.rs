@@ -10,7 +10,7 @@ use compare::images::{self, Image};
 use compare::judge::{Judge, Release};
 use compare::model;
 use mlx9064x_release::CalibrationData;
-use mofuleka::{lent, Calibration, Gathering, Refusal};
+use mofuleka::{lent, Calibration, Gathering, Refusal, Table};
 
 struct Lent {
     offset: [u8; lent::OFFSET_TABLE_BYTES],
@@ -105,9 +105,9 @@ fn past_the_bound(image: &[u8]) -> [bool; 3] {
 }
 
 /// Number, table and place of the refusal that an image gets; no number but 0 where it is accepted.
-fn refused(image: &[u8]) -> (u8, u8, usize) {
+fn refused(image: &[u8]) -> (u8, Option<Table>, usize) {
     match Calibration::from_data(image) {
-        Ok(_) => (0, 0, 0),
+        Ok(_) => (0, None, 0),
         Err(refusal) => (refusal.number(), refusal.table(), refusal.place()),
     }
 }
@@ -187,11 +187,11 @@ impl Images {
     fn check(&self) {
         assert_eq!(past_the_bound(&self.lifelike), [false; 3]);
         assert_eq!(past_the_bound(&self.past), [true; 3]);
-        assert_eq!(refused(&self.lifelike), (0, 0, 0));
-        assert_eq!(refused(&self.past), (0, 0, 0));
-        assert_eq!(refused(&self.first), (3, 0, 0));
-        assert_eq!(refused(&self.last), (3, 0, 767));
-        assert_eq!(refused(&self.k_ta), (3, 2, 767));
+        assert_eq!(refused(&self.lifelike), (0, None, 0));
+        assert_eq!(refused(&self.past), (0, None, 0));
+        assert_eq!(refused(&self.first), (3, Some(Table::Offset), 0));
+        assert_eq!(refused(&self.last), (3, Some(Table::Offset), 767));
+        assert_eq!(refused(&self.k_ta), (3, Some(Table::Kta), 767));
         for image in [&self.lifelike, &self.past] {
             has_the_crates_numbers(image);
         }

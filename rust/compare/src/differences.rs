@@ -75,9 +75,9 @@ fn said<T>(outcome: Outcome<T>, show: impl FnOnce(T) -> String) -> String {
 fn ours<T>(answer: Result<T, Refusal>, show: impl FnOnce(T) -> String) -> String {
     match answer {
         Ok(answer) => show(answer),
-        Err(refusal) => match refusal.number() {
-            3 | 4 => format!("refusal {}, table {}, pixel {}", refusal.number(), refusal.table(), refusal.place()),
-            number => format!("refusal {}", number),
+        Err(refusal) => match (refusal.number(), refusal.table()) {
+            (number, Some(table)) => format!("refusal {}, table {}, pixel {}", number, table.number(), refusal.place()),
+            (number, None) => format!("refusal {}", number),
         },
     }
 }

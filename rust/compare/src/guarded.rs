@@ -1,5 +1,5 @@
 //! Calls into the library with guard bytes around every slice, and the comparison of one image.
-use mofuleka::{lent, Refusal};
+use mofuleka::{lent, Refusal, Table};
 
 use crate::judge::{Checked, Judge, Outcome, Release};
 use crate::model::{self, Decoded, Refused};
@@ -134,7 +134,8 @@ pub struct Depth {
 }
 
 pub fn refused_of(refusal: Refusal) -> Refused {
-    Refused { number: refusal.number(), table: refusal.table(), place: refusal.place() as u64 }
+    let table = refusal.table().map_or(0, Table::number);
+    Refused { number: refusal.number(), table, place: refusal.place() as u64 }
 }
 
 /// The lent memory and what is remembered between images.

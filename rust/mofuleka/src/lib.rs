@@ -39,7 +39,7 @@ pub use camera::{
 };
 pub use common::{CalibrationData, MelexisCamera};
 pub use gathering::{Gathering, Status, Word};
-pub use refusal::{Reason, Refusal};
+pub use refusal::{Reason, Refusal, Table};
 
 /// The names of mlx9064x's module of this name.
 pub mod mlx90640 {

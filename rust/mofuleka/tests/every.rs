@@ -3,7 +3,7 @@ use std::collections::HashSet;
 
 use mofuleka::{
     lent, sys, AccessPattern, Address, Calibration, Gathering, Mlx90640, RamAddress, Reason, Refusal, Status, Subpage,
-    Word,
+    Table, Word,
 };
 
 /// An all-zero image with some words set, by address.
@@ -15,8 +15,9 @@ fn image(words: &[(usize, u16)]) -> Vec<u8> {
     image
 }
 
+/// Number, table and place; where there is no table, 0.
 fn parts(refusal: Refusal) -> (u8, u8, usize) {
-    (refusal.number(), refusal.table(), refusal.place())
+    (refusal.number(), refusal.table().map_or(0, Table::number), refusal.place())
 }
 
 fn refusal(words: &[(usize, u16)]) -> (u8, u8, usize) {
@@ -187,6 +188,17 @@ fn image_refusals() {
     assert_eq!(refusal(&[(0x2411, 0x8000), (0x2418, 0xF000)]), (4, 0, 3));
     assert_eq!(refusal(&[(0x2438, 0x000F), (0x2440 + 767, 0x0002)]), (3, 2, 767));
     assert_eq!(refusal(&[(0x2436, 0xFF00), (0x2438, 0x000D), (0x2442, 0x0008)]), (4, 2, 2));
+}
+
+#[test]
+fn tables_by_name() {
+    let table = |words: &[(usize, u16)]| Calibration::from_data(&image(words)).unwrap_err().table();
+    assert_eq!(table(&[(0x2411, 0x7FFF), (0x2413, 0x0010)]), Some(Table::Offset));
+    assert_eq!(table(&[(0x2420, 0x00F0), (0x2429, 0x0010)]), Some(Table::Alpha));
+    assert_eq!(table(&[(0x2438, 0x000F), (0x2440, 0x0002)]), Some(Table::Kta));
+    for (number, table) in [Table::Offset, Table::Alpha, Table::Kta].into_iter().enumerate() {
+        assert_eq!((usize::from(table.number()), table as usize), (number, number));
+    }
 }
 
 /// Some words that are the same, after the first ones.
@@ -604,6 +616,8 @@ fn messages() {
         let error: Box<dyn std::error::Error> = Box::new(refusal);
         assert!(error.to_string().ends_with(&format!(" (refusal {})", refusal.number())));
         assert_ne!(refusal.reason(), Reason::Unknown);
+        assert_eq!(refusal.reason() as u8, refusal.number());
+        assert_eq!(refusal.table().is_some(), matches!(refusal.reason(), Reason::TermOutside | Reason::SumOutside));
         all.insert((refusal.number(), error.to_string()));
     };
     let record = [0u8; 122];
