@@ -316,7 +316,7 @@ impl Timed<'_> {
     }
 
     fn questions(&mut self, image: &Image) {
-        let record = *Calibration::from_data(image).expect("an accepted image").record();
+        let record = *Calibration::from_data(image).expect("an accepted image").record_bytes();
         let bits =
             |answer: Result<Option<f32>, Refusal>| u64::from(answer.ok().flatten().map(f32::to_bits).unwrap_or(0));
         self.case("one pixel: Kv, correction, mask", &mut |i| {

@@ -9,6 +9,7 @@ use compare::judge::{Judge, Release};
 use compare::leaving;
 use compare::model;
 use compare::tally::{Held, Tally};
+use mofuleka::place;
 
 fn listing(image: &[u8]) -> String {
     if let Err(refused) = model::verdict(image) {
@@ -21,27 +22,30 @@ fn listing(image: &[u8]) -> String {
         |at: usize| format!("{:08X}", u32::from_be_bytes([record[at], record[at + 1], record[at + 2], record[at + 3]]));
     let wholes = |at: usize, count: usize| (0..count).map(|i| whole(at + 2 * i)).collect::<Vec<_>>().join(" ");
     let floats = |at: usize, count: usize| (0..count).map(|i| float(at + 4 * i)).collect::<Vec<_>>().join(" ");
-    let gradient = if record[89] == 0 { "none".to_string() } else { float(90) };
+    let gradient = match record[place::TEMPERATURE_GRADIENT_PRESENT] {
+        0 => "none".to_string(),
+        _ => float(place::TEMPERATURE_GRADIENT_COEFFICIENT),
+    };
     let lines = [
-        ("k_v_dd", whole(0)),
-        ("v_dd_25", whole(2)),
-        ("resolution", record[4].to_string()),
-        ("k_v_ptat", float(5)),
-        ("k_t_ptat", float(9)),
-        ("v_ptat_25", float(13)),
-        ("alpha_ptat", float(17)),
-        ("gain", float(21)),
-        ("k_s_ta", float(25)),
-        ("corner_temperatures", wholes(29, 4)),
-        ("k_s_to", floats(37, 4)),
-        ("alpha_cp", floats(53, 2)),
-        ("offset_reference_cp", wholes(61, 2)),
-        ("k_v_pattern", floats(65, 4)),
-        ("k_v_cp", float(81)),
-        ("k_ta_cp", float(85)),
+        ("k_v_dd", whole(place::K_V_DD)),
+        ("v_dd_25", whole(place::V_DD_25)),
+        ("resolution", record[place::RESOLUTION].to_string()),
+        ("k_v_ptat", float(place::K_V_PTAT)),
+        ("k_t_ptat", float(place::K_T_PTAT)),
+        ("v_ptat_25", float(place::V_PTAT_25)),
+        ("alpha_ptat", float(place::ALPHA_PTAT)),
+        ("gain", float(place::GAIN)),
+        ("k_s_ta", float(place::K_S_TA)),
+        ("corner_temperatures", wholes(place::CORNER_TEMPERATURES, 4)),
+        ("k_s_to", floats(place::K_S_TO, 4)),
+        ("alpha_cp", floats(place::ALPHA_CP, 2)),
+        ("offset_reference_cp", wholes(place::OFFSET_REFERENCE_CP, 2)),
+        ("k_v_pattern", floats(place::K_V_PATTERN, 4)),
+        ("k_v_cp", float(place::K_V_CP)),
+        ("k_ta_cp", float(place::K_TA_CP)),
         ("temperature_gradient_coefficient", gradient),
-        ("interleave_correction_pixels", floats(94, 6)),
-        ("interleave_correction_cp", float(118)),
+        ("interleave_correction_pixels", floats(place::INTERLEAVE_CORRECTION_PIXELS, 6)),
+        ("interleave_correction_cp", float(place::INTERLEAVE_CORRECTION_CP)),
     ];
     lines.iter().map(|(name, values)| format!("{} {}\n", name, values)).collect()
 }

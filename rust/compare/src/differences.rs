@@ -9,7 +9,7 @@ use compare::images;
 use compare::judge::{outcome, Checked, Judge, Outcome, Release};
 use compare::model::{self, ALPHA, K_TA, OFFSET};
 use compare::tally::{Held, Tally};
-use mofuleka::{AccessPattern, Calibration, Mlx90640, Refusal, Subpage};
+use mofuleka::{lent, place, AccessPattern, Calibration, Mlx90640, Refusal, Subpage};
 
 struct Row {
     /// The image that was decoded, where the row has one.
@@ -139,7 +139,7 @@ trait Fields {
     fn alpha_correction(&self) -> String;
 }
 
-fn float_at(record: &[u8; 122], at: usize) -> f32 {
+fn float_at(record: &[u8; lent::RECORD_BYTES], at: usize) -> f32 {
     f32::from_be_bytes([record[at], record[at + 1], record[at + 2], record[at + 3]])
 }
 
@@ -178,12 +178,15 @@ impl<J: Judge> Fields for J {
     }
 
     fn alpha_ptat(&self) -> String {
-        number(float_at(&self.record(), 17).into())
+        number(float_at(&self.record(), place::ALPHA_PTAT).into())
     }
 
     fn gradient(&self) -> String {
         let record = self.record();
-        absent(if record[89] == 0 { None } else { Some(float_at(&record, 90)) })
+        absent(match record[place::TEMPERATURE_GRADIENT_PRESENT] {
+            0 => None,
+            _ => Some(float_at(&record, place::TEMPERATURE_GRADIENT_COEFFICIENT)),
+        })
     }
 
     fn alpha_correction(&self) -> String {

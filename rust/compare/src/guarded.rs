@@ -1,5 +1,5 @@
 //! Calls into the library with guard bytes around every slice, and the comparison of one image.
-use mofuleka::{lent, Refusal, Table};
+use mofuleka::{lent, place, Refusal, Table};
 
 use crate::judge::{Checked, Judge, Outcome, Release};
 use crate::model::{self, Decoded, Refused};
@@ -50,28 +50,29 @@ impl Default for Guarded {
     }
 }
 
-pub const FULL: [usize; 4] = [1536, 3072, 3072, 122];
+pub const FULL: [usize; 4] =
+    [lent::OFFSET_TABLE_BYTES, lent::ALPHA_TABLE_BYTES, lent::K_TA_TABLE_BYTES, lent::RECORD_BYTES];
 const FIELDS: [(&str, usize); 20] = [
-    ("k_v_dd", 0),
-    ("v_dd_25", 2),
-    ("resolution", 4),
-    ("k_v_ptat", 5),
-    ("k_t_ptat", 9),
-    ("v_ptat_25", 13),
-    ("alpha_ptat", 17),
-    ("gain", 21),
-    ("k_s_ta", 25),
-    ("corner_temperatures", 29),
-    ("k_s_to", 37),
-    ("alpha_cp", 53),
-    ("offset_reference_cp", 61),
-    ("k_v_pattern", 65),
-    ("k_v_cp", 81),
-    ("k_ta_cp", 85),
-    ("temperature_gradient_coefficient", 89),
-    ("interleave_correction_pixels", 94),
-    ("interleave_correction_cp", 118),
-    ("the record's end", 122),
+    ("k_v_dd", place::K_V_DD),
+    ("v_dd_25", place::V_DD_25),
+    ("resolution", place::RESOLUTION),
+    ("k_v_ptat", place::K_V_PTAT),
+    ("k_t_ptat", place::K_T_PTAT),
+    ("v_ptat_25", place::V_PTAT_25),
+    ("alpha_ptat", place::ALPHA_PTAT),
+    ("gain", place::GAIN),
+    ("k_s_ta", place::K_S_TA),
+    ("corner_temperatures", place::CORNER_TEMPERATURES),
+    ("k_s_to", place::K_S_TO),
+    ("alpha_cp", place::ALPHA_CP),
+    ("offset_reference_cp", place::OFFSET_REFERENCE_CP),
+    ("k_v_pattern", place::K_V_PATTERN),
+    ("k_v_cp", place::K_V_CP),
+    ("k_ta_cp", place::K_TA_CP),
+    ("temperature_gradient_coefficient", place::TEMPERATURE_GRADIENT_PRESENT),
+    ("interleave_correction_pixels", place::INTERLEAVE_CORRECTION_PIXELS),
+    ("interleave_correction_cp", place::INTERLEAVE_CORRECTION_CP),
+    ("the record's end", lent::RECORD_BYTES),
 ];
 /// Numbers in a record: 3 small ones, 6 floats, 4 + 4, 2 + 2, 4, 2, the gradient, 6 + 1.
 const RECORD_NUMBERS: u64 = 35;
@@ -82,8 +83,14 @@ fn field_of(at: usize) -> &'static str {
 }
 
 /// Compares two records; one that differs counts as one number that differs.
-fn compare_records(tally: &mut Tally, held: Held, ours: &[u8], expected: &[u8; 122], name: &dyn Fn() -> String) {
-    let at = (0..122).find(|at| ours[*at] != expected[*at]);
+fn compare_records(
+    tally: &mut Tally,
+    held: Held,
+    ours: &[u8],
+    expected: &[u8; lent::RECORD_BYTES],
+    name: &dyn Fn() -> String,
+) {
+    let at = (0..lent::RECORD_BYTES).find(|at| ours[*at] != expected[*at]);
     tally.count(held, RECORD_NUMBERS, u64::from(at.is_some()), || {
         let at = at.unwrap_or(0);
         let (byte, must) = (ours[at], expected[at]);

@@ -5,7 +5,7 @@ use compare::images::{self, Numbers};
 use compare::judge::{Checked, Judge, Release};
 use compare::model::{self, refused, Refused};
 use compare::tally::{Held, Tally};
-use mofuleka::lent;
+use mofuleka::{lent, place};
 
 /// Decoding into slices of which one has any length.
 pub fn short_slices(tally: &mut Tally, bench: &mut Bench) {
@@ -37,15 +37,15 @@ pub fn over_records(tally: &mut Tally, seed: u64) {
     tally.part("questions over any record");
     let mut numbers = Numbers::new(seed);
     for i in 0..200 {
-        let mut record = [0u8; 130];
+        let mut record = [0u8; lent::RECORD_BYTES + 8];
         record.iter_mut().for_each(|byte| *byte = numbers.word() as u8);
         if i % 3 == 0 {
             // Many of these are NaNs.
             record.chunks_mut(2).for_each(|pair| pair[0] |= 0x7F);
         }
-        any_record(tally, &record[..122 + i % 9], i);
+        any_record(tally, &record[..lent::RECORD_BYTES + i % 9], i);
     }
-    for len in 0..122 {
+    for len in 0..lent::RECORD_BYTES {
         short_record(tally, &vec![0u8; len]);
     }
 }
@@ -64,11 +64,11 @@ fn any_record(tally: &mut Tally, record: &[u8], i: usize) {
     let name = || format!("record {}", i);
     for pixel in 0..768 {
         let ours = lent::k_v_pixel(record, pixel).map(f32::to_bits).map_err(refused_of);
-        tally.same(Held::Rules, name, ours, Ok(read(record, 65 + 4 * model::chess(pixel))));
+        tally.same(Held::Rules, name, ours, Ok(read(record, place::K_V_PATTERN + 4 * model::chess(pixel))));
         for pattern in 0..2 {
             let ours = lent::interleave_correction_pixel(record, pattern, pixel);
             let expected = match pattern {
-                0 => Some(read(record, 94 + 4 * model::correction(pixel))),
+                0 => Some(read(record, place::INTERLEAVE_CORRECTION_PIXELS + 4 * model::correction(pixel))),
                 _ => None,
             };
             tally.same(Held::Rules, name, ours.map(|x| x.map(f32::to_bits)).map_err(refused_of), Ok(expected));
@@ -77,13 +77,15 @@ fn any_record(tally: &mut Tally, record: &[u8], i: usize) {
     for subpage in 0..2u32 {
         for pattern in 0..2u32 {
             let ours = lent::interleave_correction_cp(record, pattern, subpage);
-            let expected = if (pattern, subpage) == (0, 1) { Some(read(record, 118)) } else { None };
+            let expected =
+                if (pattern, subpage) == (0, 1) { Some(read(record, place::INTERLEAVE_CORRECTION_CP)) } else { None };
             tally.same(Held::Rules, name, ours.map(|x| x.map(f32::to_bits)).map_err(refused_of), Ok(expected));
         }
         let at = subpage as usize;
         let ours = lent::alpha_cp(record, subpage).map(f32::to_bits).map_err(refused_of);
-        tally.same(Held::Rules, name, ours, Ok(read(record, 53 + 4 * at)));
-        let expected = i16::from_be_bytes([record[61 + 2 * at], record[62 + 2 * at]]);
+        tally.same(Held::Rules, name, ours, Ok(read(record, place::ALPHA_CP + 4 * at)));
+        let offset = &record[place::OFFSET_REFERENCE_CP + 2 * at..];
+        let expected = i16::from_be_bytes([offset[0], offset[1]]);
         tally.same(Held::Rules, name, lent::offset_reference_cp(record, subpage).map_err(refused_of), Ok(expected));
     }
 }

@@ -5,6 +5,7 @@ use std::slice;
 use crate::camera::{AccessPattern, Mlx90640, Subpage};
 use crate::later::Later;
 use crate::lent;
+use crate::place;
 use crate::refusal::Refusal;
 
 const PIXELS: usize = Mlx90640::NUM_PIXELS;
@@ -94,8 +95,8 @@ impl Calibration {
             *entry = read_i16(bytes, 0);
         }
         Ok(Self {
-            corner_temperatures: [read_i16(r, 29), read_i16(r, 31), read_i16(r, 33), read_i16(r, 35)],
-            k_s_to: [read_f32(r, 37), read_f32(r, 41), read_f32(r, 45), read_f32(r, 49)],
+            corner_temperatures: [0, 1, 2, 3].map(|number| read_i16(r, place::CORNER_TEMPERATURES + 2 * number)),
+            k_s_to: [0, 1, 2, 3].map(|number| read_f32(r, place::K_S_TO + 4 * number)),
             offset,
             alpha: table_f32(&l.alpha),
             k_ta: table_f32(&l.k_ta),
@@ -105,24 +106,24 @@ impl Calibration {
         })
     }
 
-    /// The record's bytes, as `docs/INTERFACE.md` lays them out.
-    pub fn record(&self) -> &[u8; lent::RECORD_BYTES] {
+    /// The record's bytes, as `docs/INTERFACE.md` lays them out; [`place`](crate::place) has where each field starts.
+    pub fn record_bytes(&self) -> &[u8; lent::RECORD_BYTES] {
         &self.record
     }
 
     /// Pixel supply voltage constant, K_Vdd.
     pub fn k_v_dd(&self) -> i16 {
-        read_i16(&self.record, 0)
+        read_i16(&self.record, place::K_V_DD)
     }
 
     /// Pixel supply voltage at 25 degrees, Vdd25.
     pub fn v_dd_25(&self) -> i16 {
-        read_i16(&self.record, 2)
+        read_i16(&self.record, place::V_DD_25)
     }
 
     /// The ADC resolution at which the camera was calibrated.
     pub fn resolution(&self) -> u8 {
-        self.record[4]
+        self.record[place::RESOLUTION]
     }
 
     /// The supply voltage, 3.3 V for every MLX90640.
@@ -132,32 +133,32 @@ impl Calibration {
 
     /// Kv_PTAT.
     pub fn k_v_ptat(&self) -> f32 {
-        read_f32(&self.record, 5)
+        read_f32(&self.record, place::K_V_PTAT)
     }
 
     /// Kt_PTAT.
     pub fn k_t_ptat(&self) -> f32 {
-        read_f32(&self.record, 9)
+        read_f32(&self.record, place::K_T_PTAT)
     }
 
     /// V_PTAT25.
     pub fn v_ptat_25(&self) -> f32 {
-        read_f32(&self.record, 13)
+        read_f32(&self.record, place::V_PTAT_25)
     }
 
     /// Alpha_PTAT.
     pub fn alpha_ptat(&self) -> f32 {
-        read_f32(&self.record, 17)
+        read_f32(&self.record, place::ALPHA_PTAT)
     }
 
     /// The gain.
     pub fn gain(&self) -> f32 {
-        read_f32(&self.record, 21)
+        read_f32(&self.record, place::GAIN)
     }
 
     /// KsTa.
     pub fn k_s_ta(&self) -> f32 {
-        read_f32(&self.record, 25)
+        read_f32(&self.record, place::K_S_TA)
     }
 
     /// The four corner temperatures.
@@ -215,7 +216,7 @@ impl Calibration {
 
     /// Kv of the compensation pixels, the same for both subpages.
     pub fn k_v_cp(&self, _subpage: Subpage) -> f32 {
-        read_f32(&self.record, 81)
+        read_f32(&self.record, place::K_V_CP)
     }
 
     /// Kta of all pixels, the same for both subpages.
@@ -225,14 +226,14 @@ impl Calibration {
 
     /// Kta of the compensation pixels, the same for both subpages.
     pub fn k_ta_cp(&self, _subpage: Subpage) -> f32 {
-        read_f32(&self.record, 85)
+        read_f32(&self.record, place::K_TA_CP)
     }
 
     /// The temperature gradient coefficient, absent where its byte is zero.
     pub fn temperature_gradient_coefficient(&self) -> Option<f32> {
-        match self.record[89] {
+        match self.record[place::TEMPERATURE_GRADIENT_PRESENT] {
             0 => None,
-            _ => Some(read_f32(&self.record, 90)),
+            _ => Some(read_f32(&self.record, place::TEMPERATURE_GRADIENT_COEFFICIENT)),
         }
     }
 

@@ -30,6 +30,7 @@ pub mod common;
 mod gathering;
 mod later;
 pub mod lent;
+pub mod place;
 mod refusal;
 pub mod sys;
 

@@ -1,14 +1,20 @@
 //! Every function and every refusal of the crate; short, empty and over-long slices.
 use std::collections::HashSet;
 
-use mofuleka::{
-    lent, sys, AccessPattern, Address, Calibration, Gathering, Mlx90640, RamAddress, Reason, Refusal, Status, Subpage,
-    Table, Word,
+use mofuleka::lent::{
+    ALPHA_TABLE_BYTES, GATHERING_BYTES, IMAGE_BYTES, K_TA_TABLE_BYTES, OFFSET_TABLE_BYTES, RECORD_BYTES,
 };
+use mofuleka::{
+    lent, place, sys, AccessPattern, Address, Calibration, Gathering, Mlx90640, RamAddress, Reason, Refusal, Status,
+    Subpage, Table, Word,
+};
+
+/// The lengths of the four written slices.
+const FULL: [usize; 4] = [OFFSET_TABLE_BYTES, ALPHA_TABLE_BYTES, K_TA_TABLE_BYTES, RECORD_BYTES];
 
 /// An all-zero image with some words set, by address.
 fn image(words: &[(usize, u16)]) -> Vec<u8> {
-    let mut image = vec![0u8; 1664];
+    let mut image = vec![0u8; IMAGE_BYTES];
     for (address, word) in words {
         image[2 * (address - 0x2400)..][..2].copy_from_slice(&word.to_be_bytes());
     }
@@ -54,15 +60,39 @@ fn sizes_are_the_archives() {
     assert_eq!(lent::sizes(), [1664, 1536, 3072, 3072, 122, 2496]);
     assert_eq!(
         lent::sizes(),
-        [
-            lent::IMAGE_BYTES,
-            lent::OFFSET_TABLE_BYTES,
-            lent::ALPHA_TABLE_BYTES,
-            lent::K_TA_TABLE_BYTES,
-            lent::RECORD_BYTES,
-            lent::GATHERING_BYTES
-        ]
+        [IMAGE_BYTES, OFFSET_TABLE_BYTES, ALPHA_TABLE_BYTES, K_TA_TABLE_BYTES, RECORD_BYTES, GATHERING_BYTES]
     );
+}
+
+#[test]
+fn places_follow_each_other() {
+    let fields = [
+        (place::K_V_DD, 2),
+        (place::V_DD_25, 2),
+        (place::RESOLUTION, 1),
+        (place::K_V_PTAT, 4),
+        (place::K_T_PTAT, 4),
+        (place::V_PTAT_25, 4),
+        (place::ALPHA_PTAT, 4),
+        (place::GAIN, 4),
+        (place::K_S_TA, 4),
+        (place::CORNER_TEMPERATURES, 4 * 2),
+        (place::K_S_TO, 4 * 4),
+        (place::ALPHA_CP, 2 * 4),
+        (place::OFFSET_REFERENCE_CP, 2 * 2),
+        (place::K_V_PATTERN, 4 * 4),
+        (place::K_V_CP, 4),
+        (place::K_TA_CP, 4),
+        (place::TEMPERATURE_GRADIENT_PRESENT, 1),
+        (place::TEMPERATURE_GRADIENT_COEFFICIENT, 4),
+        (place::INTERLEAVE_CORRECTION_PIXELS, 6 * 4),
+        (place::INTERLEAVE_CORRECTION_CP, 4),
+    ];
+    let end = fields.iter().fold(0, |end, (place, bytes)| {
+        assert_eq!(*place, end);
+        end + bytes
+    });
+    assert_eq!(end, RECORD_BYTES);
 }
 
 #[test]
@@ -99,7 +129,7 @@ fn zero_image() {
     assert_eq!(bits[32..36], [0, 0x8000_0000, 0, 0]);
     assert!(c.access_pattern_compensation_pixels(AccessPattern::Chess).all(|x| x.is_none()));
     assert_eq!(c.access_pattern_compensation_pixels(AccessPattern::Chess).len(), 768);
-    assert_eq!(c.record()[89], 0);
+    assert_eq!(c.record_bytes()[place::TEMPERATURE_GRADIENT_PRESENT], 0);
 }
 
 #[test]
@@ -176,10 +206,11 @@ fn other_fields() {
 
 #[test]
 fn image_refusals() {
-    for short in [0, 1, 830, 831, 1662, 1663] {
+    for short in [0, 1, 830, 831, 1662, IMAGE_BYTES - 1] {
         let refusal = Calibration::from_data(&vec![0; short]).unwrap_err();
         assert_eq!(parts(refusal), (1, 0, 0));
         assert_eq!(refusal.reason(), Reason::ImageLength);
+        assert_eq!(refusal.table(), None);
     }
     assert_eq!(refusal(&[(0x2410, 0x0F00), (0x2412, 0x0001)]), (3, 0, 0));
     assert_eq!(refusal(&[(0x2410, 0x0F00), (0x2412, 0x0002)]), (3, 0, 0));
@@ -265,10 +296,9 @@ fn words_that_are_not_read() {
 fn lent_slices() {
     // Each of the four written slices short by one, or empty: refusal 2, and no byte of any slice is touched.
     let good = image(&[(0x2411, 0x1234)]);
-    let full = [1536, 3072, 3072, 122];
     for which in 0..4 {
-        for len in [0, full[which] - 1] {
-            let mut lens = full;
+        for len in [0, FULL[which] - 1] {
+            let mut lens = FULL;
             lens[which] = len;
             let mut slices: Vec<Vec<u8>> = lens.iter().map(|len| vec![0x5A; *len]).collect();
             let (a, b) = slices.split_at_mut(2);
@@ -291,16 +321,16 @@ fn lent_slices() {
         }
     }
     // Over-long slices keep the bytes past their layout; a short image comes before a short slice.
-    let mut long: Vec<Vec<u8>> = full.iter().map(|len| vec![0x5A; len + 9]).collect();
+    let mut long: Vec<Vec<u8>> = FULL.iter().map(|len| vec![0x5A; len + 9]).collect();
     let (a, b) = long.split_at_mut(2);
     let (offset, alpha) = a.split_at_mut(1);
     let (k_ta, record) = b.split_at_mut(1);
     lent::from_data(&good, &mut offset[0], &mut alpha[0], &mut k_ta[0], &mut record[0]).unwrap();
     assert_eq!(offset[0][..2], [0x12, 0x34]);
-    for (slice, len) in [&offset[0], &alpha[0], &k_ta[0], &record[0]].iter().zip(full) {
+    for (slice, len) in [&offset[0], &alpha[0], &k_ta[0], &record[0]].iter().zip(FULL) {
         assert!(slice[len..].iter().all(|byte| *byte == 0x5A));
     }
-    let refusal = lent::from_data(&good[..1663], &mut [], &mut [], &mut [], &mut []).unwrap_err();
+    let refusal = lent::from_data(&good[..IMAGE_BYTES - 1], &mut [], &mut [], &mut [], &mut []).unwrap_err();
     assert_eq!(refusal.number(), 1);
     // A refused image leaves them alone too.
     let bad = image(&[(0x2411, 0x7FFF), (0x2413, 0x0010)]);
@@ -386,13 +416,14 @@ fn gathered_images() {
 
 #[test]
 fn stored_gatherings() {
-    assert_eq!(Gathering::from_bytes(&[0; 2495]).unwrap_err().number(), 2);
+    assert_eq!(Gathering::from_bytes(&[0; GATHERING_BYTES - 1]).unwrap_err().number(), 2);
     assert_eq!(Gathering::from_bytes(&[]).unwrap_err().number(), 2);
     assert_eq!(Gathering::from_bytes(&[0; 2600]).unwrap(), Gathering::new());
     // A state that no history gives: unknown marks, and values beside missing and in conflict.
-    let mut bytes = [0u8; 2496];
+    let mut bytes = [0u8; GATHERING_BYTES];
+    let marks = 2 * Gathering::WORDS;
     bytes[..6].copy_from_slice(&[1, 2, 3, 4, 5, 6]);
-    bytes[1664..1667].copy_from_slice(&[0, 2, 77]);
+    bytes[marks..marks + 3].copy_from_slice(&[0, 2, 77]);
     let mut odd = Gathering::from_bytes(&bytes).unwrap();
     assert_eq!(odd.as_bytes()[..], bytes[..]);
     assert_eq!(odd.status(), Status { missing: 830, in_conflict: 2 });
@@ -403,11 +434,11 @@ fn stored_gatherings() {
     assert_eq!(odd.as_bytes()[..], bytes[..]);
     odd.accept(&block(831, &[1])).unwrap();
     assert_eq!(odd.as_bytes()[..6], [0; 6]);
-    assert_eq!(odd.as_bytes()[1664..1667], [0, 2, 2]);
+    assert_eq!(odd.as_bytes()[marks..marks + 3], [0, 2, 2]);
     let mut merged = Gathering::from_bytes(&bytes).unwrap();
     merged.merge(&Gathering::new());
     assert_eq!(merged.as_bytes()[..6], [0; 6]);
-    assert_eq!(merged.as_bytes()[1664..1667], [0, 2, 2]);
+    assert_eq!(merged.as_bytes()[marks..marks + 3], [0, 2, 2]);
     let slice: &[u8] = &bytes;
     assert!(Gathering::try_from(slice).is_ok());
 }
@@ -415,19 +446,19 @@ fn stored_gatherings() {
 #[test]
 fn short_and_long_gatherings() {
     let good = block(0, &[1]);
-    for len in [0, 1, 2495] {
+    for len in [0, 1, GATHERING_BYTES - 1] {
         let mut bytes = vec![0x5A; len];
         assert_eq!(lent::gathering_fresh(&mut bytes).unwrap_err().number(), 2);
         assert_eq!(lent::gathering_accept(&mut bytes, &good).unwrap_err().number(), 2);
         assert_eq!(lent::gathering_accept(&mut bytes, &[]).unwrap_err().number(), 2);
-        assert_eq!(lent::gathering_merge(&mut bytes, &[0; 2496]).unwrap_err().number(), 2);
+        assert_eq!(lent::gathering_merge(&mut bytes, &[0; GATHERING_BYTES]).unwrap_err().number(), 2);
         assert_eq!(lent::gathering_status(&bytes).unwrap_err().number(), 2);
         assert_eq!(lent::gathering_word(&bytes, 0).unwrap_err().number(), 2);
         assert_eq!(lent::gathering_word(&bytes, 832).unwrap_err().number(), 11);
         let refusal = lent::gathering_from_data(&bytes, &mut [], &mut [], &mut [], &mut []).unwrap_err();
         assert_eq!(refusal.number(), 2);
         assert!(bytes.iter().all(|byte| *byte == 0x5A));
-        let mut first = vec![0x5A; 2496];
+        let mut first = vec![0x5A; GATHERING_BYTES];
         assert_eq!(lent::gathering_merge(&mut first, &bytes).unwrap_err().number(), 2);
         assert!(first.iter().all(|byte| *byte == 0x5A));
     }
@@ -436,13 +467,13 @@ fn short_and_long_gatherings() {
     let refusal = lent::gathering_from_data(fresh.as_bytes(), &mut [], &mut [], &mut [], &mut []).unwrap_err();
     assert_eq!(parts(refusal), (10, 0, 0));
     // Over-long ones keep their rest.
-    let mut long = vec![0x5A; 2500];
+    let mut long = vec![0x5A; GATHERING_BYTES + 4];
     lent::gathering_fresh(&mut long).unwrap();
-    assert!(long[..2496].iter().all(|byte| *byte == 0) && long[2496..] == [0x5A; 4]);
+    assert!(long[..GATHERING_BYTES].iter().all(|byte| *byte == 0) && long[GATHERING_BYTES..] == [0x5A; 4]);
     lent::gathering_accept(&mut long, &good).unwrap();
     let other = long.clone();
     lent::gathering_merge(&mut long, &other).unwrap();
-    assert!(long[2496..] == [0x5A; 4]);
+    assert!(long[GATHERING_BYTES..] == [0x5A; 4]);
     assert_eq!(lent::gathering_status(&long), Ok((831, 0)));
     assert_eq!(lent::gathering_word(&long, 0), Ok((1, 1)));
 }
@@ -524,8 +555,8 @@ fn resolutions() {
 
 #[test]
 fn numbers_and_orders_of_the_interface() {
-    let record = *calibration(&[(0x2435, 0x0841)]).record();
-    let short = &record[..121];
+    let record = *calibration(&[(0x2435, 0x0841)]).record_bytes();
+    let short = &record[..RECORD_BYTES - 1];
     for bad in [2, 256, u32::MAX] {
         assert_eq!(lent::pixel_in_subpage(bad, 0, 0).unwrap_err().number(), 14);
         assert_eq!(lent::pixel_in_subpage(0, bad, 768).unwrap_err().number(), 14);
@@ -563,7 +594,7 @@ fn numbers_and_orders_of_the_interface() {
     assert_eq!(lent::interleave_correction_pixel(&long, 1, 3), Ok(None));
     assert_eq!(lent::interleave_correction_cp(&long, 0, 1), Ok(Some(0.0625)));
     // Bytes that no call wrote: a NaN is read as the one NaN.
-    let odd = [0xFF; 122];
+    let odd = [0xFF; RECORD_BYTES];
     assert_eq!(lent::k_v_pixel(&odd, 0).unwrap().to_bits(), 0x7FC0_0000);
     assert_eq!(lent::alpha_cp(&odd, 1).unwrap().to_bits(), 0x7FC0_0000);
     assert_eq!(lent::interleave_correction_pixel(&odd, 0, 0).unwrap().unwrap().to_bits(), 0x7FC0_0000);
@@ -572,31 +603,37 @@ fn numbers_and_orders_of_the_interface() {
 
 #[test]
 fn answer_words() {
-    // The bits of an answer, with nothing in between. SAFETY: numbers alone, and slices that live through the call.
+    // The bits of an answer, with nothing in between.
+    // SAFETY: only numbers are passed, and any are answered.
     unsafe {
         assert_eq!(sys::mofuleka_pixel_range_count(0), 12 << 16);
         assert_eq!(sys::mofuleka_pixel_range_count(2), 14);
         assert_eq!(sys::mofuleka_pixel_range(0, 1, 11), 0x06E0_05C0_0040 << 16);
         assert_eq!(sys::mofuleka_pixel_in_subpage(1, 1, 1), 1 << 16);
-        let fresh = Gathering::new();
-        let bytes = fresh.as_bytes();
-        assert_eq!(sys::mofuleka_gathering_status(bytes.as_ptr(), bytes.len()), 832 << 32);
-        let bad = image(&[(0x2420, 0x00F0), (0x2428, 0x1000)]);
-        let mut l = ([0u8; 1536], [0u8; 3072], [0u8; 3072], [0u8; 122]);
-        let answer = sys::mofuleka_from_data(
+    }
+    let fresh = Gathering::new();
+    let bytes = fresh.as_bytes();
+    // SAFETY: pointer and length are one array's, which is only read and outlives the call.
+    let answer = unsafe { sys::mofuleka_gathering_status(bytes.as_ptr(), bytes.len()) };
+    assert_eq!(answer, 832 << 32);
+    let bad = image(&[(0x2420, 0x00F0), (0x2428, 0x1000)]);
+    let [mut offset, mut alpha, mut k_ta, mut record] = FULL.map(|len| vec![0u8; len]);
+    // SAFETY: each pointer has its own vector's length, all vectors outlive the call, and no two of them overlap.
+    let answer = unsafe {
+        sys::mofuleka_from_data(
             bad.as_ptr(),
             bad.len(),
-            l.0.as_mut_ptr(),
-            1536,
-            l.1.as_mut_ptr(),
-            3072,
-            l.2.as_mut_ptr(),
-            3072,
-            l.3.as_mut_ptr(),
-            122,
-        );
-        assert_eq!(answer, 0x0003_0103);
-    }
+            offset.as_mut_ptr(),
+            offset.len(),
+            alpha.as_mut_ptr(),
+            alpha.len(),
+            k_ta.as_mut_ptr(),
+            k_ta.len(),
+            record.as_mut_ptr(),
+            record.len(),
+        )
+    };
+    assert_eq!(answer, 0x0003_0103);
 }
 
 #[test]
@@ -613,14 +650,13 @@ fn messages() {
     assert!(text(&[(0x2438, 0x000F), (0x2440 + 767, 0x0002)]).starts_with("Kta table, pixel 767: "));
     let mut all = HashSet::new();
     let mut seen = |refusal: Refusal| {
-        let error: Box<dyn std::error::Error> = Box::new(refusal);
-        assert!(error.to_string().ends_with(&format!(" (refusal {})", refusal.number())));
+        assert!(refusal.to_string().ends_with(&format!(" (refusal {})", refusal.number())));
         assert_ne!(refusal.reason(), Reason::Unknown);
         assert_eq!(refusal.reason() as u8, refusal.number());
         assert_eq!(refusal.table().is_some(), matches!(refusal.reason(), Reason::TermOutside | Reason::SumOutside));
-        all.insert((refusal.number(), error.to_string()));
+        all.insert((refusal.number(), refusal.to_string()));
     };
-    let record = [0u8; 122];
+    let record = [0u8; RECORD_BYTES];
     let mut gathering = Gathering::new();
     seen(Calibration::from_data(&[]).unwrap_err());
     seen(lent::gathering_status(&[]).unwrap_err());
