@@ -1,23 +1,31 @@
 //! A calibration under the original crate's accessor names, over the record and the tables that the archive writes.
-use std::fmt;
-use std::slice;
+use core::fmt;
+use core::slice;
 
 use crate::camera::{AccessPattern, Mlx90640, Subpage};
-use crate::later::Later;
 use crate::lent;
 use crate::place;
 use crate::refusal::Refusal;
+use crate::tile::{Corrections, KvPixels, Tile};
 
 const PIXELS: usize = Mlx90640::NUM_PIXELS;
+
+/// The bytes of a float, and of a signed 16-bit number.
+const F32: usize = 4;
+const I16: usize = 2;
+/// Which of the record's four Kv the pixels of a tile have, row by row.
+const K_V_OF_TILE: [usize; 8] = [0, 2, 0, 2, 1, 3, 1, 3];
+/// Which of the record's six corrections they have.
+const CORRECTION_OF_TILE: [usize; 8] = [0, 1, 0, 2, 3, 4, 3, 5];
 
 /// The calibration of one camera, decoded from its EEPROM image.
 ///
 /// The methods have the names of the crate mlx9064x, so that code written for its `Mlx90640Calibration` keeps its calls.
 ///
 /// ```
-/// use mofuleka::{AccessPattern, Calibration, Subpage};
+/// use mofuleka::{lent, AccessPattern, Calibration, Subpage};
 ///
-/// let mut image = vec![0u8; 1664];
+/// let mut image = [0u8; lent::IMAGE_BYTES];
 /// image[2 * 0x33..][..2].copy_from_slice(&0x9D68u16.to_be_bytes()); // 0x2433: supply voltage
 /// image[2 * 0x35..][..2].copy_from_slice(&0x0841u16.to_be_bytes()); // 0x2435: interleave corrections
 /// let calibration = Calibration::from_data(&image)?;
@@ -32,16 +40,37 @@ const PIXELS: usize = Mlx90640::NUM_PIXELS;
 /// assert_eq!(calibration.offset_reference_pixels(Subpage::Zero).count(), 768);
 /// # Ok::<(), mofuleka::Refusal>(())
 /// ```
+#[derive(Clone, PartialEq)]
 pub struct Calibration {
-    record: [u8; lent::RECORD_BYTES],
+    record: Record,
+    // Out of the record, for the accessors that hand out references.
     corner_temperatures: [i16; 4],
     k_s_to: [f32; 4],
+    k_v: Tile,
+    interleave_corrections: Tile,
     offset: [i16; PIXELS],
     alpha: [f32; PIXELS],
     k_ta: [f32; PIXELS],
-    // Asked of the library when first wanted.
-    k_v: Later<[f32; PIXELS]>,
-    corrections: [Later<[Option<f32>; PIXELS]>; 2],
+}
+
+/// The record's bytes, with the numbers in them.
+#[derive(Clone, PartialEq)]
+struct Record([u8; lent::RECORD_BYTES]);
+
+// A number is asked for at its own place, and lies before the record's end: no index here is past it.
+impl Record {
+    fn i16(&self, at: usize) -> i16 {
+        i16::from_be_bytes([self.0[at], self.0[at + 1]])
+    }
+
+    fn f32(&self, at: usize) -> f32 {
+        f32::from_be_bytes([self.0[at], self.0[at + 1], self.0[at + 2], self.0[at + 3]])
+    }
+
+    /// Some of the floats that stand one after the other, by their numbers.
+    fn f32s<const N: usize>(&self, at: usize, numbers: [usize; N]) -> [f32; N] {
+        numbers.map(|number| self.f32(at + F32 * number))
+    }
 }
 
 /// The lent bytes of one decoding.
@@ -52,18 +81,18 @@ struct Lent {
     record: [u8; lent::RECORD_BYTES],
 }
 
-fn read_i16(bytes: &[u8], at: usize) -> i16 {
-    i16::from_be_bytes([bytes[at], bytes[at + 1]])
+fn table_i16(bytes: &[u8; I16 * PIXELS]) -> [i16; PIXELS] {
+    let mut table = [0; PIXELS];
+    for (entry, bytes) in table.iter_mut().zip(bytes.chunks_exact(I16)) {
+        *entry = i16::from_be_bytes([bytes[0], bytes[1]]);
+    }
+    table
 }
 
-fn read_f32(bytes: &[u8], at: usize) -> f32 {
-    f32::from_be_bytes([bytes[at], bytes[at + 1], bytes[at + 2], bytes[at + 3]])
-}
-
-fn table_f32(bytes: &[u8; 4 * PIXELS]) -> [f32; PIXELS] {
-    let mut table = [0f32; PIXELS];
-    for (entry, bytes) in table.iter_mut().zip(bytes.chunks_exact(4)) {
-        *entry = read_f32(bytes, 0);
+fn table_f32(bytes: &[u8; F32 * PIXELS]) -> [f32; PIXELS] {
+    let mut table = [0.0; PIXELS];
+    for (entry, bytes) in table.iter_mut().zip(bytes.chunks_exact(F32)) {
+        *entry = f32::from_be_bytes([bytes[0], bytes[1], bytes[2], bytes[3]]);
     }
     table
 }
@@ -72,7 +101,9 @@ impl Calibration {
     /// Decodes an EEPROM image: 832 big-endian words, first address 0x2400. A longer slice is accepted, and its bytes from
     /// 1,664 on are ignored.
     ///
-    /// Refusals: 1 for a short image; 3 and 4 where a term, or the final sum of an offset or of Kta, leaves 16 bits.
+    /// # Errors
+    /// `ImageLength` for a short image; `TermOutside` and `SumOutside` where a term, or the final sum of an offset or of Kta,
+    /// leaves 16 bits.
     pub fn from_data(image: &[u8]) -> Result<Self, Refusal> {
         Self::filled(|l| lent::from_data(image, &mut l.offset, &mut l.alpha, &mut l.k_ta, &mut l.record))
     }
@@ -89,41 +120,37 @@ impl Calibration {
             record: [0; lent::RECORD_BYTES],
         };
         fill(&mut l)?;
-        let r = &l.record;
-        let mut offset = [0i16; PIXELS];
-        for (entry, bytes) in offset.iter_mut().zip(l.offset.chunks_exact(2)) {
-            *entry = read_i16(bytes, 0);
-        }
+        let record = Record(l.record);
         Ok(Self {
-            corner_temperatures: [0, 1, 2, 3].map(|number| read_i16(r, place::CORNER_TEMPERATURES + 2 * number)),
-            k_s_to: [0, 1, 2, 3].map(|number| read_f32(r, place::K_S_TO + 4 * number)),
-            offset,
+            corner_temperatures: [0, 1, 2, 3].map(|number| record.i16(place::CORNER_TEMPERATURES + I16 * number)),
+            k_s_to: record.f32s(place::K_S_TO, [0, 1, 2, 3]),
+            k_v: Tile(record.f32s(place::K_V_PATTERN, K_V_OF_TILE)),
+            interleave_corrections: Tile(record.f32s(place::INTERLEAVE_CORRECTION_PIXELS, CORRECTION_OF_TILE)),
+            offset: table_i16(&l.offset),
             alpha: table_f32(&l.alpha),
             k_ta: table_f32(&l.k_ta),
-            record: l.record,
-            k_v: Later::new(),
-            corrections: [Later::new(), Later::new()],
+            record,
         })
     }
 
     /// The record's bytes, as `docs/INTERFACE.md` lays them out; [`place`](crate::place) has where each field starts.
     pub fn record_bytes(&self) -> &[u8; lent::RECORD_BYTES] {
-        &self.record
+        &self.record.0
     }
 
-    /// Pixel supply voltage constant, K_Vdd.
+    /// Pixel supply voltage constant, `K_Vdd`.
     pub fn k_v_dd(&self) -> i16 {
-        read_i16(&self.record, place::K_V_DD)
+        self.record.i16(place::K_V_DD)
     }
 
-    /// Pixel supply voltage at 25 degrees, Vdd25.
+    /// Pixel supply voltage at 25 degrees, `Vdd25`.
     pub fn v_dd_25(&self) -> i16 {
-        read_i16(&self.record, place::V_DD_25)
+        self.record.i16(place::V_DD_25)
     }
 
     /// The ADC resolution at which the camera was calibrated.
     pub fn resolution(&self) -> u8 {
-        self.record[place::RESOLUTION]
+        self.record.0[place::RESOLUTION]
     }
 
     /// The supply voltage, 3.3 V for every MLX90640.
@@ -131,34 +158,34 @@ impl Calibration {
         3.3
     }
 
-    /// Kv_PTAT.
+    /// `Kv_PTAT`.
     pub fn k_v_ptat(&self) -> f32 {
-        read_f32(&self.record, place::K_V_PTAT)
+        self.record.f32(place::K_V_PTAT)
     }
 
-    /// Kt_PTAT.
+    /// `Kt_PTAT`.
     pub fn k_t_ptat(&self) -> f32 {
-        read_f32(&self.record, place::K_T_PTAT)
+        self.record.f32(place::K_T_PTAT)
     }
 
-    /// V_PTAT25.
+    /// `V_PTAT25`.
     pub fn v_ptat_25(&self) -> f32 {
-        read_f32(&self.record, place::V_PTAT_25)
+        self.record.f32(place::V_PTAT_25)
     }
 
-    /// Alpha_PTAT.
+    /// `Alpha_PTAT`.
     pub fn alpha_ptat(&self) -> f32 {
-        read_f32(&self.record, place::ALPHA_PTAT)
+        self.record.f32(place::ALPHA_PTAT)
     }
 
     /// The gain.
     pub fn gain(&self) -> f32 {
-        read_f32(&self.record, place::GAIN)
+        self.record.f32(place::GAIN)
     }
 
-    /// KsTa.
+    /// `KsTa`.
     pub fn k_s_ta(&self) -> f32 {
-        read_f32(&self.record, place::K_S_TA)
+        self.record.f32(place::K_S_TA)
     }
 
     /// The four corner temperatures.
@@ -166,7 +193,7 @@ impl Calibration {
         &self.corner_temperatures
     }
 
-    /// KsTo of the four temperature ranges.
+    /// `KsTo` of the four temperature ranges.
     pub fn k_s_to(&self) -> &[f32] {
         &self.k_s_to
     }
@@ -183,7 +210,7 @@ impl Calibration {
 
     /// The offset reference of the subpage's compensation pixel.
     pub fn offset_reference_cp(&self, subpage: Subpage) -> i16 {
-        lent::offset_reference_cp(&self.record, subpage.number()).expect("a known subpage")
+        self.record.i16(place::OFFSET_REFERENCE_CP + I16 * subpage as usize)
     }
 
     /// Alpha of all pixels, the same for both subpages.
@@ -193,30 +220,25 @@ impl Calibration {
 
     /// Alpha of the subpage's compensation pixel.
     pub fn alpha_cp(&self, subpage: Subpage) -> f32 {
-        lent::alpha_cp(&self.record, subpage.number()).expect("a known subpage")
+        self.record.f32(place::ALPHA_CP + F32 * subpage as usize)
     }
 
     /// Kv of all pixels, the same for both subpages.
-    pub fn k_v_pixels(&self, _subpage: Subpage) -> slice::Iter<'_, f32> {
-        self.k_v
-            .get(|| {
-                let mut table = Box::new([0f32; PIXELS]);
-                for (pixel, entry) in table.iter_mut().enumerate() {
-                    *entry = self.k_v_pixel(pixel).expect("a pixel below 768");
-                }
-                table
-            })
-            .iter()
+    pub fn k_v_pixels(&self, _subpage: Subpage) -> KvPixels<'_> {
+        KvPixels::new(&self.k_v)
     }
 
-    /// Kv of one pixel. Refusal: 11.
+    /// Kv of one pixel.
+    ///
+    /// # Errors
+    /// `PastTheEnd` above 767.
     pub fn k_v_pixel(&self, pixel: usize) -> Result<f32, Refusal> {
-        lent::k_v_pixel(&self.record, pixel)
+        lent::k_v_pixel(self.record_bytes(), pixel)
     }
 
     /// Kv of the compensation pixels, the same for both subpages.
     pub fn k_v_cp(&self, _subpage: Subpage) -> f32 {
-        read_f32(&self.record, place::K_V_CP)
+        self.record.f32(place::K_V_CP)
     }
 
     /// Kta of all pixels, the same for both subpages.
@@ -226,42 +248,43 @@ impl Calibration {
 
     /// Kta of the compensation pixels, the same for both subpages.
     pub fn k_ta_cp(&self, _subpage: Subpage) -> f32 {
-        read_f32(&self.record, place::K_TA_CP)
+        self.record.f32(place::K_TA_CP)
     }
 
     /// The temperature gradient coefficient, absent where its byte is zero.
     pub fn temperature_gradient_coefficient(&self) -> Option<f32> {
-        match self.record[place::TEMPERATURE_GRADIENT_PRESENT] {
+        match self.record.0[place::TEMPERATURE_GRADIENT_PRESENT] {
             0 => None,
-            _ => Some(read_f32(&self.record, place::TEMPERATURE_GRADIENT_COEFFICIENT)),
+            _ => Some(self.record.f32(place::TEMPERATURE_GRADIENT_COEFFICIENT)),
         }
     }
 
     /// The correction of each pixel that is added to its gain-compensated value; none in Chess.
     pub fn access_pattern_compensation_pixels(&self, access_pattern: AccessPattern) -> Corrections<'_> {
-        let table = self.corrections[access_pattern as usize].get(|| {
-            let mut table = Box::new([None; PIXELS]);
-            for (pixel, entry) in table.iter_mut().enumerate() {
-                *entry = self.access_pattern_compensation_pixel(pixel, access_pattern).expect("a pixel below 768");
-            }
-            table
-        });
-        Corrections(table.iter())
+        Corrections::new(match access_pattern {
+            AccessPattern::Interleave => Some(&self.interleave_corrections),
+            AccessPattern::Chess => None,
+        })
     }
 
-    /// The correction of one pixel. Refusal: 11.
+    /// The correction of one pixel.
+    ///
+    /// # Errors
+    /// `PastTheEnd` above 767, in both patterns.
     pub fn access_pattern_compensation_pixel(
         &self,
         pixel: usize,
         access_pattern: AccessPattern,
     ) -> Result<Option<f32>, Refusal> {
-        lent::interleave_correction_pixel(&self.record, access_pattern.number(), pixel)
+        lent::interleave_correction_pixel(self.record_bytes(), access_pattern.number(), pixel)
     }
 
     /// The correction of the subpage's compensation pixel: there is one for subpage One in Interleave.
     pub fn access_pattern_compensation_cp(&self, subpage: Subpage, access_pattern: AccessPattern) -> Option<f32> {
-        lent::interleave_correction_cp(&self.record, access_pattern.number(), subpage.number())
-            .expect("a known pattern and subpage")
+        match (access_pattern, subpage) {
+            (AccessPattern::Interleave, Subpage::One) => Some(self.record.f32(place::INTERLEAVE_CORRECTION_CP)),
+            _ => None,
+        }
     }
 }
 
@@ -270,30 +293,6 @@ impl TryFrom<&[u8]> for Calibration {
 
     fn try_from(image: &[u8]) -> Result<Self, Refusal> {
         Self::from_data(image)
-    }
-}
-
-impl Clone for Calibration {
-    fn clone(&self) -> Self {
-        Self {
-            record: self.record,
-            corner_temperatures: self.corner_temperatures,
-            k_s_to: self.k_s_to,
-            offset: self.offset,
-            alpha: self.alpha,
-            k_ta: self.k_ta,
-            k_v: Later::new(),
-            corrections: [Later::new(), Later::new()],
-        }
-    }
-}
-
-impl PartialEq for Calibration {
-    fn eq(&self, other: &Self) -> bool {
-        self.record == other.record
-            && self.offset == other.offset
-            && self.alpha == other.alpha
-            && self.k_ta == other.k_ta
     }
 }
 
@@ -322,22 +321,3 @@ impl fmt::Debug for Calibration {
             .finish_non_exhaustive()
     }
 }
-
-/// The iterator of [`Calibration::access_pattern_compensation_pixels`].
-#[derive(Clone, Debug)]
-pub struct Corrections<'a>(slice::Iter<'a, Option<f32>>);
-
-impl<'a> Iterator for Corrections<'a> {
-    type Item = Option<&'a f32>;
-
-    fn next(&mut self) -> Option<Option<&'a f32>> {
-        self.0.next().map(Option::as_ref)
-    }
-
-    fn size_hint(&self) -> (usize, Option<usize>) {
-        self.0.size_hint()
-    }
-}
-
-impl<'a> ExactSizeIterator for Corrections<'a> {}
-impl<'a> std::iter::FusedIterator for Corrections<'a> {}

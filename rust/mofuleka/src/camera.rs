@@ -1,6 +1,6 @@
 //! The camera: patterns, subpages, read ranges and addresses, under the original crate's names.
-use std::fmt;
-use std::iter::FusedIterator;
+use core::fmt;
+use core::iter::FusedIterator;
 
 use crate::lent;
 use crate::refusal::Refusal;

@@ -2,13 +2,14 @@
 //!
 //! They are the original's but for what the library does not answer (`alpha_correction`), and `resolution_correction` is a
 //! `Result`. [`Calibration`] and [`Mlx90640`] have all of it as methods of their own too.
-use std::slice;
+use core::slice;
 
 pub use crate::camera::{Address, PixelAddressRange};
 
-use crate::calibration::{Calibration, Corrections};
+use crate::calibration::Calibration;
 use crate::camera::{AccessPattern, Mlx90640, PixelRanges, PixelsInSubpage, Subpage};
 use crate::refusal::Refusal;
+use crate::tile::{Corrections, KvPixels};
 
 /// A camera's calibration. Each method is documented at [`Calibration`].
 #[allow(missing_docs)]
@@ -75,6 +76,8 @@ pub trait MelexisCamera {
     fn pixel_ranges(subpage: Subpage, access_pattern: AccessPattern) -> Self::PixelRangeIterator;
     fn pixels_in_subpage(subpage: Subpage, access_pattern: AccessPattern) -> Self::PixelsInSubpageIterator;
     fn compensation_pixel(subpage: Subpage) -> Address;
+    /// # Errors
+    /// As at [`Mlx90640::resolution_correction`].
     fn resolution_correction(calibrated_resolution: u8, current_resolution: u8) -> Result<f32, Refusal>;
 }
 
@@ -120,7 +123,7 @@ impl<'a> CalibrationData<'a> for Calibration {
         Calibration::alpha_pixels(self, subpage)
     }
 
-    type KvIterator = slice::Iter<'a, f32>;
+    type KvIterator = KvPixels<'a>;
     fn k_v_pixels(&'a self, subpage: Subpage) -> Self::KvIterator {
         Calibration::k_v_pixels(self, subpage)
     }

@@ -1,5 +1,5 @@
 //! Blocks of an image gathered, merged, counted and decoded.
-use std::fmt;
+use core::fmt;
 
 use crate::calibration::Calibration;
 use crate::lent;

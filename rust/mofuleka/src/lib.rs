@@ -4,43 +4,57 @@
 //! takes the place of the MLX90640 half of the crate mlx9064x; the methods keep their names.
 //!
 //! ```
-//! use mofuleka::{Calibration, Subpage};
+//! use mofuleka::{lent, Calibration, Subpage};
 //!
-//! let image = [0u8; 1664]; // a dump of the camera's EEPROM
+//! let image = [0u8; lent::IMAGE_BYTES]; // a dump of the camera's EEPROM
 //! match Calibration::from_data(&image) {
 //!     Ok(calibration) => {
 //!         assert_eq!(calibration.v_dd_25(), -16384);
 //!         assert!(calibration.alpha_pixels(Subpage::Zero).all(|alpha| *alpha == 0.0));
 //!     }
-//!     Err(refusal) => eprintln!("{}", refusal),
+//!     Err(refusal) => eprintln!("{refusal}"),
 //! }
 //!
-//! let refusal = Calibration::from_data(&image[..1663]).unwrap_err();
+//! let refusal = Calibration::from_data(&image[1..]).unwrap_err();
 //! assert_eq!(refusal.to_string(), "the image is shorter than 1664 bytes (refusal 1)");
 //! ```
 //!
 //! # Where the archive comes from
 //! The build script takes the file that the environment variable `MOFULEKA_ARCHIVE` names; without it, `rt staticlib
 //! mofuleka` is run at the root of the repository.
+//!
+//! # Without std
+//! The crate is `no_std` and allocates nothing. Its default feature, `std`, makes [`Refusal`] a `std::error::Error`, and
+//! adds nothing else.
+#![no_std]
 #![warn(missing_docs)]
+#![deny(unsafe_code)]
+// Nearly every function here does nothing but answer: saying so at each would tell a reader nothing.
+#![allow(clippy::must_use_candidate)]
+
+#[cfg(feature = "std")]
+extern crate std;
 
 mod calibration;
 mod camera;
 pub mod common;
 mod gathering;
-mod later;
+// The one module that calls the archive.
+#[allow(unsafe_code)]
 pub mod lent;
 pub mod place;
 mod refusal;
 pub mod sys;
+mod tile;
 
-pub use calibration::{Calibration, Corrections};
+pub use calibration::Calibration;
 pub use camera::{
     AccessPattern, Address, Mlx90640, PixelAddressRange, PixelRanges, PixelsInSubpage, RamAddress, Subpage,
 };
 pub use common::{CalibrationData, MelexisCamera};
 pub use gathering::{Gathering, Status, Word};
 pub use refusal::{Reason, Refusal, Table};
+pub use tile::{Corrections, KvPixels};
 
 /// The names of mlx9064x's module of this name.
 pub mod mlx90640 {

@@ -1,4 +1,8 @@
 //! Every function and every refusal of the crate; short, empty and over-long slices.
+
+// The floats that are compared here are exact, those that are converted have few enough bits, and blocks have at most 832 words.
+#![allow(clippy::float_cmp, clippy::cast_precision_loss, clippy::cast_possible_truncation)]
+
 use std::collections::HashSet;
 
 use mofuleka::lent::{
@@ -9,6 +13,9 @@ use mofuleka::{
     Subpage, Table, Word,
 };
 
+const PIXELS: usize = Mlx90640::NUM_PIXELS;
+const SUBPAGES: [Subpage; 2] = [Subpage::Zero, Subpage::One];
+const PATTERNS: [AccessPattern; 2] = [AccessPattern::Interleave, AccessPattern::Chess];
 /// The lengths of the four written slices.
 const FULL: [usize; 4] = [OFFSET_TABLE_BYTES, ALPHA_TABLE_BYTES, K_TA_TABLE_BYTES, RECORD_BYTES];
 
@@ -93,6 +100,93 @@ fn places_follow_each_other() {
         end + bytes
     });
     assert_eq!(end, RECORD_BYTES);
+}
+
+/// Calibrations with Kv and corrections that are all different, or negative, or zero with either sign.
+fn patterned() -> Vec<Calibration> {
+    let words = [(0x1234, 0x0841), (0xF8C1, 0xFA3D), (0x7F80, 0x0040), (0x0F1E, 0x2040), (0, 0), (0xFFFF, 0xFFFF)];
+    let made = words.iter().map(|(k_v, correction)| calibration(&[(0x2434, *k_v), (0x2435, *correction)]));
+    made.collect()
+}
+
+#[test]
+fn k_v_of_every_pixel() {
+    for c in patterned() {
+        for subpage in SUBPAGES {
+            let listed: Vec<u32> = c.k_v_pixels(subpage).map(|x| x.to_bits()).collect();
+            assert_eq!(listed.len(), PIXELS);
+            for (pixel, bits) in listed.iter().enumerate() {
+                assert_eq!(c.k_v_pixel(pixel).map(f32::to_bits), Ok(*bits));
+                assert_eq!(lent::k_v_pixel(c.record_bytes(), pixel).map(f32::to_bits), Ok(*bits));
+            }
+        }
+    }
+}
+
+#[test]
+fn corrections_of_every_pixel() {
+    for c in patterned() {
+        for pattern in PATTERNS {
+            let bits = |x: f32| x.to_bits();
+            let listed: Vec<Option<u32>> =
+                c.access_pattern_compensation_pixels(pattern).map(|x| x.copied().map(bits)).collect();
+            assert_eq!(listed.len(), PIXELS);
+            for (pixel, listed) in listed.iter().enumerate() {
+                let asked = c.access_pattern_compensation_pixel(pixel, pattern).unwrap();
+                assert_eq!(asked.map(bits), *listed);
+                let asked = lent::interleave_correction_pixel(c.record_bytes(), pattern as u32, pixel).unwrap();
+                assert_eq!(asked.map(bits), *listed);
+            }
+        }
+    }
+}
+
+#[test]
+fn compensation_pixels_are_the_librarys() {
+    let words = [(0x2435, 0xABCD), (0x2439, 0xE446), (0x243A, 0xFBB5), (0x2420, 0x79A6)];
+    for c in [calibration(&words), calibration(&[])] {
+        let record = c.record_bytes();
+        for subpage in SUBPAGES {
+            let number = subpage as u32;
+            assert_eq!(lent::alpha_cp(record, number).map(f32::to_bits), Ok(c.alpha_cp(subpage).to_bits()));
+            assert_eq!(lent::offset_reference_cp(record, number), Ok(c.offset_reference_cp(subpage)));
+            for pattern in PATTERNS {
+                let asked = lent::interleave_correction_cp(record, pattern as u32, number).unwrap();
+                let given = c.access_pattern_compensation_cp(subpage, pattern);
+                assert_eq!(asked.map(f32::to_bits), given.map(f32::to_bits));
+            }
+            assert_eq!(lent::compensation_pixel(number), Ok(Mlx90640::compensation_pixel(subpage).into()));
+        }
+    }
+}
+
+/// What an iterator over all pixels promises: its length, its end, each entry from both sides.
+fn walks_all_pixels<I>(all: I)
+where
+    I: ExactSizeIterator + DoubleEndedIterator + std::iter::FusedIterator + Clone + std::fmt::Debug,
+    I::Item: PartialEq + std::fmt::Debug,
+{
+    let listed: Vec<I::Item> = all.clone().collect();
+    assert_eq!((listed.len(), all.len()), (PIXELS, PIXELS));
+    for (pixel, entry) in listed.iter().enumerate() {
+        assert_eq!(all.clone().nth(pixel).as_ref(), Some(entry));
+    }
+    assert_eq!(all.clone().nth(PIXELS), None);
+    assert!(all.clone().rev().eq(listed.into_iter().rev()));
+    let mut rest = all;
+    assert!(rest.next().is_some() && rest.next_back().is_some() && rest.nth(PIXELS - 4).is_some());
+    assert_eq!((rest.len(), rest.size_hint()), (1, (1, Some(1))));
+    assert!(rest.next().is_some() && rest.next().is_none() && rest.next().is_none() && rest.next_back().is_none());
+    assert!(!format!("{rest:?}").is_empty());
+}
+
+#[test]
+fn iterators() {
+    let c = calibration(&[(0x2434, 0x1234), (0x2435, 0x0841)]);
+    walks_all_pixels(c.k_v_pixels(Subpage::One));
+    walks_all_pixels(c.access_pattern_compensation_pixels(AccessPattern::Interleave));
+    walks_all_pixels(c.access_pattern_compensation_pixels(AccessPattern::Chess));
+    walks_all_pixels(c.offset_reference_pixels(Subpage::Zero));
 }
 
 #[test]
@@ -196,7 +290,7 @@ fn other_fields() {
     assert_eq!(c.k_ta_cp(Subpage::Zero), 75.0 / 16384.0);
     assert_eq!(c.k_s_ta(), -16.0 / 8192.0);
     assert_eq!(c.temperature_gradient_coefficient(), Some(1.0));
-    assert_eq!(c.k_s_to()[..2], [-105.0 / 131072.0; 2]);
+    assert_eq!(c.k_s_to()[..2], [-105.0 / 131_072.0; 2]);
     let k_v: Vec<f32> = c.k_v_pixels(Subpage::Zero).copied().collect();
     assert_eq!((k_v[0], k_v[32], k_v[1], k_v[33]), (0.625, 0.5, 0.625, 0.5));
     for (pixel, value) in k_v.iter().enumerate() {
@@ -271,9 +365,9 @@ fn alpha_past_16_bits() {
     assert_eq!(alpha(&[(0x2421, 0x8000), (0x2428, 0xF000)], 3), over(-32769.0, 30));
     // The largest numerator and the smallest: 32767 + 28672 + 28672 + 31744, and four times -32768.
     let largest = [(0x2420, 0x0CCA), (0x2421, 0x7FFF), (0x2422, 0x0007), (0x2428, 0x0007), (0x2440, 0x01F0)];
-    assert_eq!(alpha(&largest, 0), over(121855.0, 30));
+    assert_eq!(alpha(&largest, 0), over(121_855.0, 30));
     let smallest = [(0x2420, 0xFCCA), (0x2421, 0x8000), (0x2427, 0x8000), (0x242F, 0x8000), (0x273F, 0x0200)];
-    assert_eq!(alpha(&smallest, 767), over(-131072.0, 45));
+    assert_eq!(alpha(&smallest, 767), over(-131_072.0, 45));
     assert_eq!(alpha(&smallest, 766), over(-65536.0, 45));
 }
 
@@ -287,7 +381,7 @@ fn words_that_are_not_read() {
     assert_eq!(plain, other);
     assert_eq!(plain, plain.clone());
     assert_ne!(plain, calibration(&[]));
-    assert!(format!("{:?}", plain).contains("k_v_dd: -3168"));
+    assert!(format!("{plain:?}").contains("k_v_dd: -3168"));
     let slice: &[u8] = &changed;
     assert!(Calibration::try_from(slice).is_ok());
 }
@@ -348,6 +442,9 @@ fn blocks() {
     let mut g = Gathering::new();
     assert_eq!(g, Gathering::fresh());
     assert_eq!(g, Gathering::default());
+    let mut bytes = [0x5A; GATHERING_BYTES];
+    lent::gathering_fresh(&mut bytes).unwrap();
+    assert_eq!(g.as_bytes(), &bytes);
     assert_eq!(g.status(), Status { missing: 832, in_conflict: 0 });
     let before = g.clone();
     let number = |g: &mut Gathering, block: &[u8]| g.accept(block).unwrap_err().number();
@@ -379,7 +476,7 @@ fn blocks() {
     assert!(!g.status().is_full());
     g.accept(&block(831, &[0xABCD])).unwrap();
     assert_eq!(g.word(831), Ok(Word::InConflict));
-    assert_eq!(format!("{:?}", g), "Gathering { missing: 830, in_conflict: 1, .. }");
+    assert_eq!(format!("{g:?}"), "Gathering { missing: 830, in_conflict: 1, .. }");
 }
 
 #[test]
@@ -686,21 +783,19 @@ fn names_of_the_original_crate() {
         mofuleka::mlx90640::Mlx90640::compensation_pixel(mofuleka::register::Subpage::One);
 }
 
+#[cfg(feature = "std")]
+#[test]
+fn refusals_are_errors() {
+    let error: Box<dyn std::error::Error> = Box::new(Calibration::from_data(&[]).unwrap_err());
+    assert_eq!(error.to_string(), "the image is shorter than 1664 bytes (refusal 1)");
+}
+
 #[test]
 fn shared_between_threads() {
-    let c = calibration(&[(0x2434, 0x1234), (0x2435, 0x0841)]);
-    let sums: Vec<f32> = std::thread::scope(|scope| {
-        let threads: Vec<_> = (0..4)
-            .map(|_| {
-                scope.spawn(|| {
-                    c.k_v_pixels(Subpage::Zero).sum::<f32>()
-                        + c.access_pattern_compensation_pixels(AccessPattern::Interleave)
-                            .map(|x| *x.unwrap())
-                            .sum::<f32>()
-                })
-            })
-            .collect();
-        threads.into_iter().map(|thread| thread.join().unwrap()).collect()
-    });
-    assert!(sums.iter().all(|sum| *sum == sums[0]));
+    fn shared<T: Send + Sync>() {}
+    shared::<Calibration>();
+    shared::<Gathering>();
+    shared::<Refusal>();
+    shared::<mofuleka::KvPixels<'_>>();
+    shared::<mofuleka::Corrections<'_>>();
 }
