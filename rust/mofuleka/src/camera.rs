@@ -78,7 +78,7 @@ impl From<Address> for usize {
 pub enum RamAddress {
     /// The first pixel.
     Base = 0x0400,
-    /// V_BE of the ambient temperature.
+    /// `V_BE` of the ambient temperature.
     AmbientTemperatureVoltageBe = 0x0700,
     /// The compensation pixel of subpage 0.
     CompensationPixelZero = 0x0708,
@@ -148,7 +148,7 @@ impl Mlx90640 {
     pub const BASIC_TEMPERATURE_RANGE: usize = 1;
     /// The self-heating to expect, in kelvin.
     pub const SELF_HEATING: f32 = 8.0;
-    /// Where V_BE of the ambient temperature is read.
+    /// Where `V_BE` of the ambient temperature is read.
     pub const T_A_V_BE: Address = Address::new(RamAddress::AmbientTemperatureVoltageBe as u16);
     /// Where PTAT of the ambient temperature is read.
     pub const T_A_PTAT: Address = Address::new(RamAddress::AmbientTemperatureVoltage as u16);
@@ -163,7 +163,10 @@ impl Mlx90640 {
         PixelRanges { subpage, access_pattern, next: 0, count }
     }
 
-    /// One range to read for a subpage. Refusal: 12.
+    /// One range to read for a subpage.
+    ///
+    /// # Errors
+    /// `RangeNumber` at or past the count.
     pub fn pixel_range(
         subpage: Subpage,
         access_pattern: AccessPattern,
@@ -182,18 +185,26 @@ impl Mlx90640 {
         PixelsInSubpage { subpage, access_pattern, next: 0 }
     }
 
-    /// Whether the pixel is in the subpage. Refusal: 11.
+    /// Whether the pixel is in the subpage.
+    ///
+    /// # Errors
+    /// `PastTheEnd` above 767.
     pub fn pixel_in_subpage(subpage: Subpage, access_pattern: AccessPattern, pixel: usize) -> Result<bool, Refusal> {
         lent::pixel_in_subpage(access_pattern.number(), subpage.number(), pixel)
     }
 
     /// The address of the subpage's compensation pixel.
     pub fn compensation_pixel(subpage: Subpage) -> Address {
-        // Both subpages are ones that the library knows.
-        Address::new(lent::compensation_pixel(subpage.number()).expect("a known subpage"))
+        match subpage {
+            Subpage::Zero => RamAddress::CompensationPixelZero.into(),
+            Subpage::One => RamAddress::CompensationPixelOne.into(),
+        }
     }
 
-    /// 2 to the power calibrated minus current. Refusal: 13 where one of them is above 15.
+    /// 2 to the power calibrated minus current.
+    ///
+    /// # Errors
+    /// `Resolution` where one of them is above 15.
     pub fn resolution_correction(calibrated_resolution: u8, current_resolution: u8) -> Result<f32, Refusal> {
         lent::resolution_correction(u32::from(calibrated_resolution), u32::from(current_resolution))
     }

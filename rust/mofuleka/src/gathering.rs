@@ -61,24 +61,25 @@ impl Gathering {
     /// The number of words gathered.
     pub const WORDS: usize = 832;
 
-    /// A fresh gathering: every word missing.
-    pub fn new() -> Self {
-        let mut bytes = [0; lent::GATHERING_BYTES];
-        lent::gathering_fresh(&mut bytes).expect("a slice of full length");
-        Self { bytes }
+    /// A fresh gathering: every word missing. Its bytes are all zero, as [`lent::gathering_fresh`] writes them.
+    pub const fn new() -> Self {
+        Self { bytes: [0; lent::GATHERING_BYTES] }
     }
 
     /// The same as [`Gathering::new`].
-    pub fn fresh() -> Self {
+    pub const fn fresh() -> Self {
         Self::new()
     }
 
     /// A gathering from stored bytes, as [`Gathering::as_bytes`] gives them; longer slices are cut. Any bytes will do: a
-    /// mark that is not known counts as in conflict. Refusal: 2 for fewer than 2,496 bytes.
+    /// mark that is not known counts as in conflict.
+    ///
+    /// # Errors
+    /// `ShortSlice` for fewer than 2,496 bytes.
     pub fn from_bytes(bytes: &[u8]) -> Result<Self, Refusal> {
         lent::gathering_status(bytes)?;
-        let mut gathering = Self { bytes: [0; lent::GATHERING_BYTES] };
-        gathering.bytes.copy_from_slice(&bytes[..lent::GATHERING_BYTES]);
+        let mut gathering = Self::new();
+        gathering.bytes.iter_mut().zip(bytes).for_each(|(own, stored)| *own = *stored);
         Ok(gathering)
     }
 
@@ -87,23 +88,35 @@ impl Gathering {
         &self.bytes
     }
 
-    /// Takes a block in. Refusals: 5, 6, 7, 8; the gathering is then as it was.
+    /// Takes a block in.
+    ///
+    /// # Errors
+    /// `BlockLength`, `BlockCount`, `BlockVersion`, `BlockRange`; the gathering is then as it was.
     pub fn accept(&mut self, block: &[u8]) -> Result<(), Refusal> {
         lent::gathering_accept(&mut self.bytes, block)
     }
 
     /// Takes in all that the other gathering has seen.
+    ///
+    /// # Panics
+    /// Never: the library refuses a merge only where a slice is short, and both of these have their full length.
     pub fn merge(&mut self, other: &Gathering) {
         lent::gathering_merge(&mut self.bytes, &other.bytes).expect("slices of full length");
     }
 
     /// How many words are missing, and how many in conflict.
+    ///
+    /// # Panics
+    /// Never: the library refuses to count only where a slice is short, and this one has its full length.
     pub fn status(&self) -> Status {
         let (missing, in_conflict) = lent::gathering_status(&self.bytes).expect("a slice of full length");
         Status { missing, in_conflict }
     }
 
-    /// What is known of one word, 0 for address 0x2400. Refusal: 11 above 831.
+    /// What is known of one word, 0 for address 0x2400.
+    ///
+    /// # Errors
+    /// `PastTheEnd` above 831.
     pub fn word(&self, word: usize) -> Result<Word, Refusal> {
         Ok(match lent::gathering_word(&self.bytes, word)? {
             (0, _) => Word::Missing,
@@ -112,7 +125,11 @@ impl Gathering {
         })
     }
 
-    /// Decodes the gathered image. Refusals: 9 for the lowest word in conflict, 10 for the lowest missing, then 3 and 4.
+    /// Decodes the gathered image.
+    ///
+    /// # Errors
+    /// `WordInConflict` for the lowest word in conflict, `WordMissing` for the lowest missing, then `TermOutside` and
+    /// `SumOutside`.
     pub fn calibration(&self) -> Result<Calibration, Refusal> {
         Calibration::from_gathering(&self.bytes)
     }

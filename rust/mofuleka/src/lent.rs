@@ -1,11 +1,12 @@
 //! The C interface on slices: every byte is lent by the caller, nothing is allocated or copied here.
 //!
-//! Tables, records and gatherings are big-endian bytes, laid out in `docs/INTERFACE.md`. A refused call writes nothing;
-//! bytes of a slice past its layout keep their content. Patterns and subpages are numbers here (0 Interleave, 1 Chess;
-//! 0 Zero, 1 One), so that every refusal of the interface can be met.
+//! Tables, records and gatherings are big-endian bytes, laid out in `docs/INTERFACE.md`; [`place`](crate::place) has the
+//! record's places. A refused call writes nothing; bytes of a slice past its layout keep their content. Patterns and
+//! subpages are numbers here (0 Interleave, 1 Chess; 0 Zero, 1 One), so that every refusal of the interface can be met.
+//! Refusals are named as in [`Reason`](crate::Reason), in the order in which they are looked for.
 //!
 //! ```
-//! use mofuleka::lent;
+//! use mofuleka::{lent, place, Reason};
 //!
 //! let image = [0u8; lent::IMAGE_BYTES];
 //! let mut offset = [0u8; lent::OFFSET_TABLE_BYTES];
@@ -13,10 +14,10 @@
 //! let mut k_ta = [0u8; lent::K_TA_TABLE_BYTES];
 //! let mut record = [0u8; lent::RECORD_BYTES];
 //! lent::from_data(&image, &mut offset, &mut alpha, &mut k_ta, &mut record)?;
-//! assert_eq!(i16::from_be_bytes([record[2], record[3]]), -16384); // v_dd_25
+//! assert_eq!(record[place::V_DD_25..][..2], (-16384i16).to_be_bytes());
 //!
-//! let refusal = lent::from_data(&image, &mut offset[..1535], &mut alpha, &mut k_ta, &mut record).unwrap_err();
-//! assert_eq!(refusal.number(), 2);
+//! let refusal = lent::from_data(&image, &mut [], &mut alpha, &mut k_ta, &mut record).unwrap_err();
+//! assert_eq!(refusal.reason(), Reason::ShortSlice);
 //! # Ok::<(), mofuleka::Refusal>(())
 //! ```
 use crate::refusal::Refusal;
@@ -35,6 +36,7 @@ pub const RECORD_BYTES: usize = 122;
 /// The bytes of a gathering: 832 words and 832 marks.
 pub const GATHERING_BYTES: usize = 2496;
 
+/// The value of an accepted answer.
 fn taken(answer: u64) -> Result<u64, Refusal> {
     match Refusal::from_answer(answer) {
         Some(refusal) => Err(refusal),
@@ -42,13 +44,28 @@ fn taken(answer: u64) -> Result<u64, Refusal> {
     }
 }
 
+/// The same of a call that only writes.
+fn done(answer: u64) -> Result<(), Refusal> {
+    taken(answer).map(|_| ())
+}
+
 fn taken_f32(answer: u64) -> Result<f32, Refusal> {
-    taken(answer).map(|value| f32::from_bits(value as u32))
+    let [a, b, c, d, ..] = taken(answer)?.to_le_bytes();
+    Ok(f32::from_bits(u32::from_le_bytes([a, b, c, d])))
 }
 
 fn taken_correction(answer: u64) -> Result<Option<f32>, Refusal> {
     let value = taken_f32(answer)?;
-    Ok(if (answer >> 8) & 0xFF == 0 { None } else { Some(value) })
+    let [_, present, ..] = answer.to_le_bytes();
+    Ok(if present == 0 { None } else { Some(value) })
+}
+
+/// The three 16-bit numbers of a value, the lowest first.
+fn thirds(value: u64) -> [u16; 3] {
+    [value, value >> 16, value >> 32].map(|value| {
+        let [low, high, ..] = value.to_le_bytes();
+        u16::from_le_bytes([low, high])
+    })
 }
 
 /// The sizes as the archive gives them: image, offset table, alpha table, Kta table, record, gathering.
@@ -66,7 +83,10 @@ pub fn sizes() -> [usize; 6] {
     }
 }
 
-/// Decodes an image into three tables and a record. Refusals: 1, 2, then 3 and 4.
+/// Decodes an image into three tables and a record.
+///
+/// # Errors
+/// `ImageLength`, `ShortSlice` for one of the four written slices, then `TermOutside` and `SumOutside`.
 pub fn from_data(
     image: &[u8],
     offset: &mut [u8],
@@ -74,8 +94,9 @@ pub fn from_data(
     k_ta: &mut [u8],
     record: &mut [u8],
 ) -> Result<(), Refusal> {
-    // SAFETY: slices are valid for their lengths and never null; the written ones are exclusive.
-    taken(unsafe {
+    // SAFETY: each pointer is a slice's, so it is not null and valid for the length that goes with it; the four written slices
+    // are borrowed exclusively, so none of them overlaps another or the image. Nothing is kept.
+    done(unsafe {
         sys::mofuleka_from_data(
             image.as_ptr(),
             image.len(),
@@ -89,48 +110,66 @@ pub fn from_data(
             record.len(),
         )
     })
-    .map(|_| ())
 }
 
-/// Makes the bytes a fresh gathering. Refusal: 2.
+/// Makes the bytes a fresh gathering.
+///
+/// # Errors
+/// `ShortSlice`.
 pub fn gathering_fresh(gathering: &mut [u8]) -> Result<(), Refusal> {
-    // SAFETY: as in `from_data`.
-    taken(unsafe { sys::mofuleka_gathering_fresh(gathering.as_mut_ptr(), gathering.len()) }).map(|_| ())
+    // SAFETY: pointer and length are one slice's, borrowed exclusively, and nothing else is passed.
+    done(unsafe { sys::mofuleka_gathering_fresh(gathering.as_mut_ptr(), gathering.len()) })
 }
 
-/// Takes a block into the gathering. Refusals: 2, 5, 6, 7, 8.
+/// Takes a block into the gathering.
+///
+/// # Errors
+/// `ShortSlice` for the gathering, then `BlockLength`, `BlockCount`, `BlockVersion`, `BlockRange`.
 pub fn gathering_accept(gathering: &mut [u8], block: &[u8]) -> Result<(), Refusal> {
-    // SAFETY: as in `from_data`.
-    taken(unsafe {
+    // SAFETY: each pointer is a slice's, with that slice's length; the gathering, which is written, is borrowed exclusively
+    // and so does not overlap the block.
+    done(unsafe {
         sys::mofuleka_gathering_accept(gathering.as_mut_ptr(), gathering.len(), block.as_ptr(), block.len())
     })
-    .map(|_| ())
 }
 
-/// Merges the other gathering into the first. Refusal: 2.
+/// Merges the other gathering into the first.
+///
+/// # Errors
+/// `ShortSlice` for either.
 pub fn gathering_merge(gathering: &mut [u8], other: &[u8]) -> Result<(), Refusal> {
-    // SAFETY: as in `from_data`.
-    taken(unsafe {
-        sys::mofuleka_gathering_merge(gathering.as_mut_ptr(), gathering.len(), other.as_ptr(), other.len())
-    })
-    .map(|_| ())
+    // SAFETY: each pointer is a slice's, with that slice's length; the first, which is written, is borrowed exclusively and so
+    // does not overlap the other.
+    done(unsafe { sys::mofuleka_gathering_merge(gathering.as_mut_ptr(), gathering.len(), other.as_ptr(), other.len()) })
 }
 
-/// The number of words missing and of words in conflict. Refusal: 2.
+/// The number of words missing and of words in conflict.
+///
+/// # Errors
+/// `ShortSlice`.
 pub fn gathering_status(gathering: &[u8]) -> Result<(usize, usize), Refusal> {
-    // SAFETY: as in `from_data`.
+    // SAFETY: pointer and length are one slice's, which is only read.
     let value = taken(unsafe { sys::mofuleka_gathering_status(gathering.as_ptr(), gathering.len()) })?;
-    Ok(((value >> 16) as usize, (value & 0xFFFF) as usize))
+    let [in_conflict, missing, _] = thirds(value);
+    Ok((usize::from(missing), usize::from(in_conflict)))
 }
 
-/// One word's mark (0 missing, 1 held, 2 in conflict) and value. Refusals: 11, 2.
+/// One word's mark (0 missing, 1 held, 2 in conflict) and value.
+///
+/// # Errors
+/// `PastTheEnd` for a word above 831, then `ShortSlice`.
 pub fn gathering_word(gathering: &[u8], word: usize) -> Result<(u8, u16), Refusal> {
-    // SAFETY: as in `from_data`.
+    // SAFETY: pointer and length are one slice's, which is only read; the word's number may be any.
     let value = taken(unsafe { sys::mofuleka_gathering_word(gathering.as_ptr(), gathering.len(), word) })?;
-    Ok(((value >> 16) as u8, value as u16))
+    let [low, high, mark, ..] = value.to_le_bytes();
+    Ok((mark, u16::from_le_bytes([low, high])))
 }
 
-/// Decodes a full gathering. Refusals: 2 for the gathering's own slice, 9, 10, 2, then 3 and 4.
+/// Decodes a full gathering.
+///
+/// # Errors
+/// `ShortSlice` for the gathering, `WordInConflict`, `WordMissing`, `ShortSlice` for one of the four written slices, then
+/// `TermOutside` and `SumOutside`.
 pub fn gathering_from_data(
     gathering: &[u8],
     offset: &mut [u8],
@@ -138,8 +177,9 @@ pub fn gathering_from_data(
     k_ta: &mut [u8],
     record: &mut [u8],
 ) -> Result<(), Refusal> {
-    // SAFETY: as in `from_data`.
-    taken(unsafe {
+    // SAFETY: each pointer is a slice's, so it is not null and valid for the length that goes with it; the four written slices
+    // are borrowed exclusively, so none of them overlaps another or the gathering. Nothing is kept.
+    done(unsafe {
         sys::mofuleka_gathering_from_data(
             gathering.as_ptr(),
             gathering.len(),
@@ -153,69 +193,101 @@ pub fn gathering_from_data(
             record.len(),
         )
     })
-    .map(|_| ())
 }
 
-/// Whether the pixel is in the subpage. Refusals: 14, 11.
+/// Whether the pixel is in the subpage.
+///
+/// # Errors
+/// `PatternOrSubpage`, then `PastTheEnd` for a pixel above 767.
 pub fn pixel_in_subpage(pattern: u32, subpage: u32, pixel: usize) -> Result<bool, Refusal> {
-    // SAFETY: only numbers are passed.
+    // SAFETY: only numbers are passed, and any are answered.
     taken(unsafe { sys::mofuleka_pixel_in_subpage(pattern, subpage, pixel) }).map(|value| value != 0)
 }
 
-/// How many ranges are read for a subpage. Refusal: 14.
+/// How many ranges are read for a subpage.
+///
+/// # Errors
+/// `PatternOrSubpage`.
 pub fn pixel_range_count(pattern: u32) -> Result<usize, Refusal> {
-    // SAFETY: only numbers are passed.
-    taken(unsafe { sys::mofuleka_pixel_range_count(pattern) }).map(|value| value as usize)
+    // SAFETY: only a number is passed, and any is answered.
+    let [count, ..] = thirds(taken(unsafe { sys::mofuleka_pixel_range_count(pattern) })?);
+    Ok(usize::from(count))
 }
 
-/// One range to read: camera address in words, buffer offset in bytes, length in bytes. Refusals: 14, 12.
+/// One range to read: camera address in words, buffer offset in bytes, length in bytes.
+///
+/// # Errors
+/// `PatternOrSubpage`, then `RangeNumber`.
 pub fn pixel_range(pattern: u32, subpage: u32, number: usize) -> Result<(u16, u16, u16), Refusal> {
-    // SAFETY: only numbers are passed.
-    let value = taken(unsafe { sys::mofuleka_pixel_range(pattern, subpage, number) })?;
-    Ok(((value >> 32) as u16, (value >> 16) as u16, value as u16))
+    // SAFETY: only numbers are passed, and any are answered.
+    let [length, offset, address] = thirds(taken(unsafe { sys::mofuleka_pixel_range(pattern, subpage, number) })?);
+    Ok((address, offset, length))
 }
 
-/// The camera address of the subpage's compensation pixel. Refusal: 14.
+/// The camera address of the subpage's compensation pixel.
+///
+/// # Errors
+/// `PatternOrSubpage`.
 pub fn compensation_pixel(subpage: u32) -> Result<u16, Refusal> {
-    // SAFETY: only numbers are passed.
-    taken(unsafe { sys::mofuleka_compensation_pixel(subpage) }).map(|value| value as u16)
+    // SAFETY: only a number is passed, and any is answered.
+    let [address, ..] = thirds(taken(unsafe { sys::mofuleka_compensation_pixel(subpage) })?);
+    Ok(address)
 }
 
-/// 2 to the power calibrated minus current. Refusal: 13.
+/// 2 to the power calibrated minus current.
+///
+/// # Errors
+/// `Resolution` where one of them is above 15.
 pub fn resolution_correction(calibrated: u32, current: u32) -> Result<f32, Refusal> {
-    // SAFETY: only numbers are passed.
+    // SAFETY: only numbers are passed, and any are answered.
     taken_f32(unsafe { sys::mofuleka_resolution_correction(calibrated, current) })
 }
 
-/// Kv of one pixel, from a record's bytes. Refusals: 11, 2.
+/// Kv of one pixel, from a record's bytes.
+///
+/// # Errors
+/// `PastTheEnd` for a pixel above 767, then `ShortSlice`.
 pub fn k_v_pixel(record: &[u8], pixel: usize) -> Result<f32, Refusal> {
-    // SAFETY: as in `from_data`.
+    // SAFETY: pointer and length are one slice's, which is only read; the pixel may be any.
     taken_f32(unsafe { sys::mofuleka_k_v_pixel(record.as_ptr(), record.len(), pixel) })
 }
 
-/// The correction of one pixel, from a record's bytes. Refusals: 14, 11, 2.
+/// The correction of one pixel, from a record's bytes.
+///
+/// # Errors
+/// `PatternOrSubpage`, `PastTheEnd` for a pixel above 767, then `ShortSlice`.
 pub fn interleave_correction_pixel(record: &[u8], pattern: u32, pixel: usize) -> Result<Option<f32>, Refusal> {
-    // SAFETY: as in `from_data`.
+    // SAFETY: pointer and length are one slice's, which is only read; pattern and pixel may be any.
     taken_correction(unsafe {
         sys::mofuleka_interleave_correction_pixel(record.as_ptr(), record.len(), pattern, pixel)
     })
 }
 
-/// The correction of the subpage's compensation pixel, from a record's bytes. Refusals: 14, 2.
+/// The correction of the subpage's compensation pixel, from a record's bytes.
+///
+/// # Errors
+/// `PatternOrSubpage`, then `ShortSlice`.
 pub fn interleave_correction_cp(record: &[u8], pattern: u32, subpage: u32) -> Result<Option<f32>, Refusal> {
-    // SAFETY: as in `from_data`.
+    // SAFETY: pointer and length are one slice's, which is only read; pattern and subpage may be any.
     taken_correction(unsafe { sys::mofuleka_interleave_correction_cp(record.as_ptr(), record.len(), pattern, subpage) })
 }
 
-/// Alpha of the subpage's compensation pixel, from a record's bytes. Refusals: 14, 2.
+/// Alpha of the subpage's compensation pixel, from a record's bytes.
+///
+/// # Errors
+/// `PatternOrSubpage`, then `ShortSlice`.
 pub fn alpha_cp(record: &[u8], subpage: u32) -> Result<f32, Refusal> {
-    // SAFETY: as in `from_data`.
+    // SAFETY: pointer and length are one slice's, which is only read; the subpage may be any.
     taken_f32(unsafe { sys::mofuleka_alpha_cp(record.as_ptr(), record.len(), subpage) })
 }
 
-/// The offset reference of the subpage's compensation pixel, from a record's bytes. Refusals: 14, 2.
+/// The offset reference of the subpage's compensation pixel, from a record's bytes.
+///
+/// # Errors
+/// `PatternOrSubpage`, then `ShortSlice`.
 pub fn offset_reference_cp(record: &[u8], subpage: u32) -> Result<i16, Refusal> {
-    // SAFETY: as in `from_data`.
-    taken(unsafe { sys::mofuleka_offset_reference_cp(record.as_ptr(), record.len(), subpage) })
-        .map(|value| value as u16 as i16)
+    // SAFETY: pointer and length are one slice's, which is only read; the subpage may be any.
+    let value = taken(unsafe { sys::mofuleka_offset_reference_cp(record.as_ptr(), record.len(), subpage) })?;
+    let [low, high, ..] = value.to_le_bytes();
+    Ok(i16::from_le_bytes([low, high]))
 }

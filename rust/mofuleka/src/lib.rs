@@ -29,6 +29,7 @@
 #![no_std]
 #![warn(missing_docs)]
 #![deny(unsafe_code)]
+#![warn(clippy::undocumented_unsafe_blocks)]
 // Nearly every function here does nothing but answer: saying so at each would tell a reader nothing.
 #![allow(clippy::must_use_candidate)]
 

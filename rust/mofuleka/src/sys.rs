@@ -1,7 +1,8 @@
 //! The C interface as it is: what `include/mofuleka.h` declares. [`lent`](crate::lent) has the same functions on slices, safe.
 //!
+//! # Safety
 //! Every pointer must be valid for the length behind it and not null (also where the length is 0), and a slice that is
-//! written must overlap no other slice of the call. Nothing is kept after a call returns.
+//! written must overlap no other slice of the call. Nothing is kept after a call returns. Numbers and bytes may be any.
 #![allow(missing_docs)]
 
 extern "C" {
