@@ -19,17 +19,12 @@ use Rattle.walk.specs.Walk.{walk}
 use Rattle.tables.specs.Entries.{offsetAt, alphaAt, ktaAt}
 use Rattle.walk.proofs.Before.{runningWalk, still-accepted, refused-with-4}
 use Rattle.eeprom.specs.Image.{imageWords}
-use Rattle.eeprom.specs.Decoding.{refusalOf, answered, decodedOf, tableAfter}
+use Rattle.eeprom.specs.Decoding.{inOrder, tablesShort, refusalOf, answered, decodedOf, tableAfter}
 use Rattle.eeprom.proofs.Refusals.{accepted-exactly}
 
 -- the refusal by the old rule
 abbrev pub runningRefusal : List ℕ → ℕ → ℕ → ℕ → Refusal
-runningRefusal image l m n =
-    cond (ltb (length image) 1664) ImageLength
-    (cond (ltb l 768) ShortSlice
-    (cond (ltb m 768) ShortSlice
-    (cond (ltb n 768) ShortSlice
-    (firstOutside (runningWalk (imageWords image))))))
+runningRefusal image l m n = inOrder image (tablesShort l m n) (firstOutside (runningWalk (imageWords image)))
 
 -- what both rules answer, and what they leave in the three tables, is the same
 pub record SameAnswer (image : List ℕ) (l m n : ℕ) : Type 0 where
@@ -42,14 +37,12 @@ pub record SameAnswer (image : List ℕ) (l m n : ℕ) : Type 0 where
 module _ (image : List ℕ) (l m n : ℕ) where
   -- what was accepted had passed the old walk
   passed : runningRefusal image l m n ≡ None → firstOutside (runningWalk (imageWords image)) ≡ None
-  passed = go (ltb (length image) 1664) (ltb l 768) (ltb m 768) (ltb n 768)
+  passed = go (ltb (length image) 1664) (tablesShort l m n)
     where
-      go : (a b c d : Bool) {r : Refusal} → cond a ImageLength (cond b ShortSlice (cond c ShortSlice (cond d ShortSlice r))) ≡ None → r ≡ None
-      go true b c d e = cc
-      go false true c d e = cc
-      go false false true d e = cc
-      go false false false true e = cc
-      go false false false false e = e
+      go : (a b : Bool) {r : Refusal} → cond a ImageLength (cond b ShortSlice r) ≡ None → r ≡ None
+      go true b e = cc
+      go false true e = cc
+      go false false e = e
 
   pub same-answer : runningRefusal image l m n ≡ None → SameAnswer image l m n
   unfolding refusalOf decodedOf

@@ -2,7 +2,7 @@
 -- that is zero throughout, with nothing written.
 -- Assumes nothing.
 use Prim.Native.Nat.{ℕ}
-use mathlib.Core.Bool.{cond}
+use mathlib.Core.Bool.{Bool, cond, _||_}
 use mathlib.Core.List.{List}
 use lib.Dec.{ltb}
 use lib.ListN.{length}
@@ -12,18 +12,25 @@ use Rattle.refusal.specs.declared.Refusal.the-variants.{ImageLength, ShortSlice
 use Rattle.record.specs.Fields.{recordOf, blankRecord}
 use Rattle.steps.specs.Steps.{firstOutside}
 use Rattle.walk.specs.Walk.{walk}
-use Rattle.tables.specs.Tab.{written}
+use Rattle.util.specs.Lists.{written}
 use Rattle.eeprom.specs.Image.{imageWords}
 use Rattle.eeprom.specs.declared.Decoded.{Decoded}
 
--- the refusal of an image and three tables that have room for l, m and n entries
+-- the order of the refusals, whatever is lent: 1 for the image's length, 2 where a lent slice is too short, then what is found in the image
+abbrev pub inOrder : List ℕ → Bool → Refusal → Refusal
+inOrder image short found = cond (ltb (length image) 1664) ImageLength (cond short ShortSlice found)
+
+-- what the walk finds is 3 or 4
+abbrev pub decoderRefusal : List ℕ → Bool → Refusal
+decoderRefusal image short = inOrder image short (firstOutside (walk (imageWords image)))
+
+-- that one of three tables with room for l, m and n entries is too short
+abbrev pub tablesShort : ℕ → ℕ → ℕ → Bool
+tablesShort l m n = ltb l 768 || (ltb m 768 || ltb n 768)
+
+-- the refusal of an image and three such tables
 unfoldable pub refusalOf : List ℕ → ℕ → ℕ → ℕ → Refusal
-refusalOf image l m n =
-    cond (ltb (length image) 1664) ImageLength
-    (cond (ltb l 768) ShortSlice
-    (cond (ltb m 768) ShortSlice
-    (cond (ltb n 768) ShortSlice
-    (firstOutside (walk (imageWords image))))))
+refusalOf image l m n = decoderRefusal image (tablesShort l m n)
 
 -- the refusal, and the record beside it
 abbrev pub answered : Refusal → (ℕ → ℕ) → Decoded
@@ -34,4 +41,4 @@ decodedOf image l m n = answered (refusalOf image l m n) (imageWords image)
 
 -- what a lent table holds afterwards: its first 768 entries written where the call was accepted, and else what it held before
 abbrev pub tableAfter : {A : Type 0} → Refusal → (ℕ → A) → List A → List A
-tableAfter r f d = cond (acceptedBy r) (written f d) d
+tableAfter r f d = cond (acceptedBy r) (written 768 f d) d

@@ -15,7 +15,7 @@ ghost use Rattle.util.specs.Words.{listed};
 ghost use Rattle.record.specs.Fields.{blankRecord};
 ghost use Rattle.steps.specs.Steps.{firstOutside};
 ghost use Rattle.walk.specs.Walk.{walk};
-ghost use Rattle.tables.specs.Tab.{tab};
+ghost use Rattle.util.specs.Lists.{tab};
 ghost use Rattle.tables.specs.Entries.{offsetAt, alphaAt, ktaAt};
 ghost use Rattle.eeprom.specs.Image.{imageWords};
 ghost use Rattle.eeprom.specs.Inner.Pairs.{swapped};

@@ -7,8 +7,7 @@ use mathlib.Core.List.{List, [], _∷_, _++_}
 use Prim.Native.Nat.{ℕ, zero, suc, _+_, _<_, suc-le-suc}
 use native.Mathlib.Nat.{not-suc-le-zero, le-of-suc-le-suc, add-zero}
 use native.Mathlib.Omega.{arith}
-use Rattle.refusal.specs.Code.{acceptedBy, orElse}
-use Rattle.refusal.proofs.Apart.{accepted-none}
+use Rattle.refusal.proofs.Order.{both-none}
 use Rattle.refusal.specs.declared.Refusal.{Refusal}
 use Rattle.refusal.specs.declared.Refusal.the-variants.{None}
 use Rattle.util.specs.Sums.{in16}
@@ -77,13 +76,6 @@ refused-first (s ∷ xs) r e n = go (in16 (valueIn s)) refl (λ h. refused-first
     go false h later = this-one s xs h (taken false h)
 
 -- ---- by pixels: nothing is found exactly where no pixel has a fault
-both-none : (a b : Refusal) → orElse a b ≡ None → (a ≡ None) × (b ≡ None)
-both-none a b e = go (acceptedBy a) refl
-  where
-    go : (d : Bool) → acceptedBy a ≡ d → (a ≡ None) × (b ≡ None)
-    go true h = (accepted-none a h, sym (ap (λ (d : Bool). cond d b a) h) ∙ e)
-    go false h = let z : a ≡ None = sym (ap (λ (d : Bool). cond d b a) h) ∙ e in absurd (let y : _≡_ {A = Bool} true false = sym (ap acceptedBy z) ∙ h in let z : _≡_ {A = ℕ} 0 1 = cc in omega arith)
-
 pub none-append : (xs ys : List Step) → firstOutside (xs ++ ys) ≡ None → (firstOutside xs ≡ None) × (firstOutside ys ≡ None)
 none-append xs ys e = both-none (firstOutside xs) (firstOutside ys) (sym (first-append xs ys) ∙ e)
 

@@ -6,10 +6,11 @@ use mathlib.Core.List.{List, [], _∷_, _++_}
 use Prim.Native.Nat.{ℕ, zero, suc, _+_, _-_, _<_, _≤_}
 use native.Mathlib.Nat.{not-suc-le-zero, le-of-suc-le-suc}
 use native.Mathlib.Omega.{arith}
-use Rattle.refusal.specs.Code.{acceptedBy, orElse}
+use Rattle.refusal.specs.Code.{orElse}
 use Rattle.refusal.specs.declared.Refusal.{Refusal}
 use Rattle.refusal.specs.declared.Refusal.the-variants.{None}
 use Rattle.util.specs.Sums.{in16}
+use Rattle.refusal.proofs.Order.{or-assoc}
 use Rattle.steps.specs.Steps.{Step, term, sum, valueIn, refusalIn, firstOutside, stepsFrom}
 
 or-step : (s : Step) (b : Bool) (r rest : Refusal) → cond b (orElse r rest) (refusalIn s) ≡ orElse (cond b r (refusalIn s)) rest
@@ -23,13 +24,6 @@ first-append [] ys = refl
 first-append (s ∷ xs) ys =
     ap (λ (r : Refusal). cond (in16 (valueIn s)) r (refusalIn s)) (first-append xs ys)
     ∙ or-step s (in16 (valueIn s)) (firstOutside xs) (firstOutside ys)
-
-or-assoc-by : (a b c : Refusal) (d : Bool) → acceptedBy a ≡ d → orElse a (orElse b c) ≡ orElse (orElse a b) c
-or-assoc-by a b c true p = rw p
-or-assoc-by a b c false p = rw p (rw p)
-
-or-assoc : (a b c : Refusal) → orElse a (orElse b c) ≡ orElse (orElse a b) c
-or-assoc a b c = or-assoc-by a b c (acceptedBy a) refl
 
 -- a loop over pixels: past the last there is nothing, and each turn takes one pixel off, or k of them
 pub steps-end : (f : ℕ → List Step) (n p : ℕ) → n ≡ 0 → firstOutside (stepsFrom f n p) ≡ None
@@ -58,10 +52,3 @@ pub steps-turn : (f : ℕ → List Step) (n p : ℕ) → 0 < n → firstOutside 
 unfolding stepsFrom
 steps-turn f zero p h = absurd (not-suc-le-zero h)
 steps-turn f (suc n) p h = let e : suc n - 1 ≡ n = omega arith in first-append (f p) (stepsFrom f n (p + 1)) ∙ rw e
-
--- what a loop has left after a part that refused something, and after one that did not
-pub or-refused : (a b : Refusal) → acceptedBy a ≡ false → orElse a b ≡ a
-or-refused a b e = rw e
-
-pub or-passed : (a b : Refusal) → acceptedBy a ≡ true → orElse a b ≡ b
-or-passed a b e = rw e

@@ -6,33 +6,33 @@ use camera::V_AND_TA_SCALE;
 use exact::over;
 use exact::up_power;
 use util::i16_from_bits;
-use util::power_of_two;
 use util::u16_from_bits;
 use walk::column_terms;
 use walk::k_ta_columns;
 use walk::row_sums;
+use walk::scale_power;
+use walk::scaled;
 ghost use mathlib.Core.Path.{_≡_};
 ghost use mathlib.Core.Bool.{true};
 ghost use Prim.Native.Nat.{ℕ, _+_, _*_, _/_, _%_, _^_, _<_, _≤_};
 ghost use lib.IntN.{pos, natAbs, _*ℤ_};
 ghost use lib.ListN.{length, getD};
 ghost use Rattle.refusal.specs.declared.Refusal.the-variants.{None};
-ghost use Rattle.exact.specs.Dyadic.{dyadic, twoTo};
-ghost use Rattle.util.specs.Words.{listed, field};
+ghost use Rattle.util.specs.Words.{listed};
 ghost use Rattle.util.specs.Sums.{in16};
 ghost use Rattle.steps.specs.Steps.{firstOutside};
 ghost use Rattle.walk.specs.Walk.{walk};
 ghost use Rattle.walk.specs.Inner.Rows.{rowEntry, Small};
-ghost use Rattle.tables.specs.Tab.{tab, written};
+ghost use Rattle.util.specs.Lists.{tab, written};
 ghost use Rattle.tables.specs.Entries.{offsetAt, alphaAt, ktaAt};
-ghost use Rattle.tables.specs.Inner.Rows.{TermsFit, EntriesFit};
+ghost use Rattle.tables.specs.Inner.Rows.{floatEntry, RowOver, TermsFit, SumsFit};
 
-// f x power.
+// f x power, where 16 bits hold it.
 fn times(f: i16, power: u16) -> i16
     requires { ⌜ (power ≤ 32768) × (in16 (f *ℤ pos power) ≡ true) ⌝ }
     ensures { λ r. ⌜ r ≡ f *ℤ pos power ⌝ }
 {
-    ((f as i32) * (power as i32)) as i16
+    scaled(f, power) as i16
 }
 
 // The whole sum of column c of row r of a table.
@@ -63,7 +63,7 @@ fn offset_row(
     r: usize,
     out: &mut [i16],
 )
-    requires { ⌜ (r < 24) × (power ≤ 32768) × (length (now out) ≡ 32) × Small 24 (now rows) × TermsFit (listed (now words)) 10 6 power × EntriesFit (listed (now words)) (now rows) (now columns) power ⌝ }
+    requires { ⌜ (r < 24) × (power ≤ 32768) × (length (now out) ≡ 32) × Small 24 (now rows) × TermsFit (listed (now words)) 10 6 power × SumsFit (listed (now words)) (now rows) (now columns) power ⌝ }
     ensures { λ _. ⌜ now (out .exit) ≡ tab (rowEntry (listed (now (words .entry))) (now (rows .entry)) (now (columns .entry)) 10 6 power r) 32 ⌝ }
 {
     let mut c = 0;
@@ -81,8 +81,8 @@ fn offset_rows(
     power: u16,
     out: &mut [i16],
 )
-    requires { ⌜ (power ≤ 32768) × (768 ≤ length (now out)) × Small 24 (now rows) × TermsFit (listed (now words)) 10 6 power × EntriesFit (listed (now words)) (now rows) (now columns) power ⌝ }
-    ensures { λ _. ⌜ now (out .exit) ≡ written (λ p. rowEntry (listed (now (words .entry))) (now (rows .entry)) (now (columns .entry)) 10 6 power (p / 32) (p % 32)) (now (out .entry)) ⌝ }
+    requires { ⌜ (power ≤ 32768) × (768 ≤ length (now out)) × Small 24 (now rows) × TermsFit (listed (now words)) 10 6 power × SumsFit (listed (now words)) (now rows) (now columns) power ⌝ }
+    ensures { λ _. ⌜ now (out .exit) ≡ written 768 (λ p. rowEntry (listed (now (words .entry))) (now (rows .entry)) (now (columns .entry)) 10 6 power (p / 32) (p % 32)) (now (out .entry)) ⌝ }
 {
     let mut r = 0;
     while r < 24 {
@@ -105,7 +105,7 @@ fn float_row(
     out: &mut [f32],
 )
     requires { ⌜ (r < 24) × (power ≤ 32768) × (length (now out) ≡ 32) × Small 24 (now rows) × TermsFit (listed (now words)) low width power ⌝ }
-    ensures { λ _. ⌜ ((k : ℕ) → k ≤ 149 → divisor ≡ twoTo (pos k) → now (out .exit) ≡ tab (λ c. dyadic (rowEntry (listed (now (words .entry))) (now (rows .entry)) (now (columns .entry)) low width power r c) k) 32) ⌝ }
+    ensures { λ _. ⌜ RowOver (listed (now (words .entry))) (now (rows .entry)) (now (columns .entry)) low width power r divisor (now (out .exit)) ⌝ }
 {
     let mut c = 0;
     while c < 32 {
@@ -129,7 +129,7 @@ fn float_rows(
     out: &mut [f32],
 )
     requires { ⌜ (power ≤ 32768) × (k < 50) × (768 ≤ length (now out)) × Small 24 (now rows) × TermsFit (listed (now words)) low width power ⌝ }
-    ensures { λ _. ⌜ now (out .exit) ≡ written (λ p. dyadic (rowEntry (listed (now (words .entry))) (now (rows .entry)) (now (columns .entry)) low width power (p / 32) (p % 32)) k) (now (out .entry)) ⌝ }
+    ensures { λ _. ⌜ now (out .exit) ≡ written 768 (λ p. floatEntry (listed (now (words .entry))) (now (rows .entry)) (now (columns .entry)) low width power k (p / 32) (p % 32)) (now (out .entry)) ⌝ }
 {
     let divisor = up_power(k);
     let mut r = 0;
@@ -164,36 +164,27 @@ fn narrowed(wide: &[i32; 64]) -> [i16; 64]
     narrow
 }
 
-// The power of two that the lowest four bits of word n give.
-fn remainder_power(words: &[u16; 832], n: usize) -> u16
-    requires { ⌜ n < 832 ⌝ }
-    ensures { λ r. ⌜ r ≡ 2 ^ field (listed (now (words .entry)) n) 0 4 ⌝ }
-    ensures { λ r. ⌜ r ≤ 32768 ⌝ }
-{
-    power_of_two(u16_from_bits(words[n], 0, 4) as u32)
-}
-
 // The offset table.
 pub fn fill_offset(words: &[u16; 832], out: &mut [i16])
     requires { ⌜ (firstOutside (walk (listed (now words))) ≡ None) × (768 ≤ length (now out)) ⌝ }
-    ensures { λ _. ⌜ now (out .exit) ≡ written (offsetAt (listed (now (words .entry)))) (now (out .entry)) ⌝ }
+    ensures { λ _. ⌜ now (out .exit) ≡ written 768 (offsetAt (listed (now (words .entry)))) (now (out .entry)) ⌝ }
 {
     let rows = row_sums(words, OFFSET_COMPENSATION);
     let wide = column_terms(words, OFFSET_COMPENSATION);
     let columns = narrowed(&wide);
-    let power = remainder_power(words, OFFSET_COMPENSATION);
+    let power = scale_power(words, OFFSET_COMPENSATION, 0);
     offset_rows(words, &rows, &columns, power, out);
 }
 
 // The alpha table.
 pub fn fill_alpha(words: &[u16; 832], out: &mut [f32])
     requires { ⌜ (firstOutside (walk (listed (now words))) ≡ None) × (768 ≤ length (now out)) ⌝ }
-    ensures { λ _. ⌜ now (out .exit) ≡ written (alphaAt (listed (now (words .entry)))) (now (out .entry)) ⌝ }
+    ensures { λ _. ⌜ now (out .exit) ≡ written 768 (alphaAt (listed (now (words .entry)))) (now (out .entry)) ⌝ }
 {
     let rows = row_sums(words, SENSITIVITY_SCALE);
     let wide = column_terms(words, SENSITIVITY_SCALE);
     let columns = narrowed(&wide);
-    let power = remainder_power(words, SENSITIVITY_SCALE);
+    let power = scale_power(words, SENSITIVITY_SCALE, 0);
     let k = u16_from_bits(words[SENSITIVITY_SCALE], 12, 4) as usize + 30;
     float_rows(words, &rows, &columns, 4, 6, power, k, out);
 }
@@ -201,12 +192,12 @@ pub fn fill_alpha(words: &[u16; 832], out: &mut [f32])
 // The Kta table.
 pub fn fill_k_ta(words: &[u16; 832], out: &mut [f32])
     requires { ⌜ (firstOutside (walk (listed (now words))) ≡ None) × (768 ≤ length (now out)) ⌝ }
-    ensures { λ _. ⌜ now (out .exit) ≡ written (ktaAt (listed (now (words .entry)))) (now (out .entry)) ⌝ }
+    ensures { λ _. ⌜ now (out .exit) ≡ written 768 (ktaAt (listed (now (words .entry)))) (now (out .entry)) ⌝ }
 {
     let rows = [0; 24];
     let wide = k_ta_columns(words);
     let columns = narrowed(&wide);
-    let power = remainder_power(words, V_AND_TA_SCALE);
+    let power = scale_power(words, V_AND_TA_SCALE, 0);
     let k = u16_from_bits(words[V_AND_TA_SCALE], 4, 4) as usize + 8;
     float_rows(words, &rows, &columns, 1, 3, power, k, out);
 }

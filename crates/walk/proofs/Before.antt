@@ -15,7 +15,8 @@ use Rattle.refusal.specs.declared.Refusal.the-variants.{None, SumOutside}
 use Rattle.refusal.specs.Code.{codeOf, acceptedBy, orElse}
 use Rattle.util.specs.Sums.{in16}
 use Rattle.steps.specs.Steps.{Step, term, sum, firstOutside, AllInside, stepsFrom}
-use Rattle.steps.proofs.Order.{first-append, or-refused, or-passed}
+use Rattle.refusal.proofs.Order.{or-refused, or-passed}
+use Rattle.steps.proofs.Order.{first-append}
 use Rattle.steps.proofs.Meaning.{accepted-inside, inside-accepted}
 use Rattle.walk.specs.Parts.{rowTerm, rowSum, columnTerm, columnSum, remainderTerm, wholeSum, ktaTerm, ktaSum}
 use Rattle.walk.specs.Walk.{termSteps, pixelSteps, tableSteps, walk}

@@ -10,20 +10,13 @@ use lib.IntN.{ℤ, pos, +ℤ-idl}
 use Rattle.refusal.specs.declared.Table.the-variants.{Offset, Alpha, Kta}
 use Rattle.util.specs.Words.{field, signedField}
 use Rattle.util.specs.Pixels.{chessboard}
+use Rattle.util.proofs.Pixels.{row-of, column-of}
 use Rattle.walk.specs.Parts.{columnTerm, rowSum, columnSum, wholeSum, ktaAverage, ktaSum}
 use Rattle.steps.specs.Steps.{AllInside}
 use Rattle.walk.specs.Walk.{termSteps, pixelSteps}
 use Rattle.walk.specs.Inner.Rows.{columnPart, rowEntry, Small, SharedFit, Vouches}
 use Rattle.steps.proofs.Meaning.{inside-accepted}
 use Rattle.walk.proofs.Sizes.{nibble-term, row-sum-size, kta-average-size}
-
--- a pixel's row and column
-module _ (r c : ℕ) (hc : c < 32) where
-  pub row-of : (32 * r + c) / 32 ≡ r
-  row-of = omega arith
-
-  pub column-of : (32 * r + c) % 32 ≡ c
-  column-of = omega arith
 
 pub zeros-at : (n r : ℕ) → getD (replicate n (pos 0)) r (pos 0) ≡ pos 0
 zeros-at zero r = refl

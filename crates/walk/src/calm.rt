@@ -30,7 +30,7 @@ fn reach(words: &[u16; 832], first: usize, count: usize) -> u32
     let mut most = 0;
     let mut k = 0;
     while k < count {
-        most = larger(most, magnitude(nibble_at(words, first, k)));
+        most = larger(most, magnitude(nibble_at(words, first, k) as i32));
         k += 1;
     }
     most
@@ -41,17 +41,18 @@ fn largest_term(words: &[u16; 832], base: usize, first: usize, low: u32, count: 
     requires { ⌜ (base ≤ 32) × (first ≤ 8) × (count ≤ 32) ⌝ }
     ensures { λ r. ⌜ LargestTerm (listed (now (words .entry))) base first low count r ⌝ }
 {
-    reach(words, base + first, count) * scale_power(words, base, low)
+    reach(words, base + first, count) * (scale_power(words, base, low) as u32)
 }
 
 // Whether the average and the largest terms of the offset table stay in 16 bits together, so that no term and no sum of it can leave them.
 pub(crate) fn calm_offset(words: &[u16; 832]) -> bool
     ensures { λ r. ⌜ (r ≡ true → CalmOffset (listed (now (words .entry)))) ⌝ }
 {
-    let average = magnitude(i16_from_bits(words[OFFSET_COMPENSATION + AVERAGE], 0, 16));
+    let average = magnitude(i16_from_bits(words[OFFSET_COMPENSATION + AVERAGE], 0, 16) as i32);
     let rows = largest_term(words, OFFSET_COMPENSATION, ROWS, 8, 24);
     let columns = largest_term(words, OFFSET_COMPENSATION, COLUMNS, 4, 32);
-    average + rows + columns + 32 * scale_power(words, OFFSET_COMPENSATION, 0) < 32768
+    let power = scale_power(words, OFFSET_COMPENSATION, 0) as u32;
+    average + rows + columns + 32 * power < 32768
 }
 
 // Whether each of the largest terms of the alpha table stays in 16 bits. Its average doesn't count: alpha has no sum to test.
@@ -60,7 +61,7 @@ pub(crate) fn calm_alpha(words: &[u16; 832]) -> bool
 {
     let rows = largest_term(words, SENSITIVITY_SCALE, ROWS, 8, 24);
     let columns = largest_term(words, SENSITIVITY_SCALE, COLUMNS, 4, 32);
-    let own = 32 * scale_power(words, SENSITIVITY_SCALE, 0);
+    let own = 32 * (scale_power(words, SENSITIVITY_SCALE, 0) as u32);
     larger(larger(rows, columns), own) < 32768
 }
 
@@ -68,5 +69,5 @@ pub(crate) fn calm_alpha(words: &[u16; 832]) -> bool
 pub(crate) fn calm_k_ta(words: &[u16; 832]) -> bool
     ensures { λ r. ⌜ (r ≡ true → CalmKta (listed (now (words .entry)))) ⌝ }
 {
-    128 + 4 * scale_power(words, V_AND_TA_SCALE, 0) < 32768
+    128 + 4 * (scale_power(words, V_AND_TA_SCALE, 0) as u32) < 32768
 }

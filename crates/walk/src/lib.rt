@@ -25,7 +25,8 @@ use rows::table_refusal;
 pub use shared::column_terms;
 pub use shared::k_ta_columns;
 pub use shared::row_sums;
-use terms::scale_power;
+pub use terms::scale_power;
+pub use terms::scaled;
 
 // The first fault of the offset table.
 fn offset_refusal(words: &[u16; 832]) -> Refusal

@@ -11,13 +11,12 @@ use refusal::accepted;
 use util::i16_from_bits;
 use util::outside;
 ghost use mathlib.Core.Path.{_≡_};
-ghost use mathlib.Core.Bool.{true, false};
-ghost use Prim.Native.Nat.{ℕ, _*_, _<_, _≤_};
+ghost use mathlib.Core.Bool.{false};
+ghost use Prim.Native.Nat.{_*_, _<_, _≤_};
 ghost use Rattle.util.specs.Words.{listed};
-ghost use Rattle.util.specs.Sums.{in16};
 ghost use Rattle.steps.specs.Steps.{stepsFrom, firstOutside};
 ghost use Rattle.walk.specs.Walk.{pixelSteps, tableSteps};
-ghost use Rattle.walk.specs.Inner.Rows.{ownTerm, rowEntry, Small, Fitting, SharedFit, Vouches};
+ghost use Rattle.walk.specs.Inner.Rows.{Small, RowInside, Fitting, SharedFit, Vouches};
 
 // The first fault of row r of a table, pixel by pixel.
 fn pixels(words: &[u16; 832], table: Table, r: usize) -> Refusal
@@ -42,11 +41,11 @@ fn leaves(
     columns: &[i32; 64],
     low: u32,
     width: u32,
-    power: u32,
+    power: u16,
     r: usize,
 ) -> bool
     requires { ⌜ (r < 24) × (power ≤ 32768) × Small 24 (now rows) × Small 64 (now columns) ⌝ }
-    ensures { λ b. ⌜ (b ≡ false → (c : ℕ) → c < 32 → (in16 (ownTerm (listed (now (words .entry))) low width power r c) ≡ true) × (in16 (rowEntry (listed (now (words .entry))) (now (rows .entry)) (now (columns .entry)) low width power r c) ≡ true)) ⌝ }
+    ensures { λ b. ⌜ (b ≡ false → RowInside (listed (now (words .entry))) (now (rows .entry)) (now (columns .entry)) low width power r) ⌝ }
 {
     let row = rows[r];
     let mut found = false;
@@ -72,7 +71,7 @@ fn row_refusal(
     columns: &[i32; 64],
     low: u32,
     width: u32,
-    power: u32,
+    power: u16,
     r: usize,
 ) -> Refusal
     requires { ⌜ (r < 24) × (power ≤ 32768) × Small 24 (now rows) × Small 64 (now columns) × Vouches (listed (now words)) table (now rows) (now columns) low width power n ⌝ }
@@ -95,7 +94,7 @@ pub(crate) fn table_refusal(
     columns: &[i32; 64],
     low: u32,
     width: u32,
-    power: u32,
+    power: u16,
 ) -> Refusal
     requires { ⌜ (power ≤ 32768) × Small 24 (now rows) × Small 64 (now columns) × Vouches (listed (now words)) table (now rows) (now columns) low width power n ⌝ }
     ensures { λ s. ⌜ s ≡ firstOutside (tableSteps (listed (now (words .entry))) table) ⌝ }

@@ -54,16 +54,16 @@ pub(crate) fn remainder_term(words: &[u16; 832], n: usize, low: u32, width: u32,
 }
 
 // 2 to the power that stands in the four bits of word n from bit low up.
-pub(crate) fn scale_power(words: &[u16; 832], n: usize, low: u32) -> u32
+pub fn scale_power(words: &[u16; 832], n: usize, low: u32) -> u16
     requires { ⌜ n < 832 ⌝ }
     ensures { λ r. ⌜ r ≡ 2 ^ field (listed (now (words .entry)) n) low 4 ⌝ }
     ensures { λ r. ⌜ r ≤ 32768 ⌝ }
 {
-    power_of_two(u16_from_bits(words[n], low, 4) as u32) as u32
+    power_of_two(u16_from_bits(words[n], low, 4) as u32)
 }
 
 // f x power.
-pub(crate) fn scaled(f: i16, power: u32) -> i32
+pub fn scaled(f: i16, power: u16) -> i32
     requires { ⌜ power ≤ 32768 ⌝ }
     ensures { λ r. ⌜ r ≡ f *ℤ pos power ⌝ }
     ensures { λ r. ⌜ natAbs r ≤ 0x40000000 ⌝ }

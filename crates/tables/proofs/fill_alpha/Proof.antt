@@ -13,7 +13,7 @@ use Rattle.util.specs.Words.{listed}
 use Rattle.walk.specs.Parts.{columnTerm, wholeSum}
 use Rattle.tables.specs.Entries.{alphaAt}
 use Rattle.walk.specs.Inner.Rows.{rowEntry}
-use Rattle.tables.proofs.Filled.{tab-same}
+use Rattle.util.proofs.Filled.{tab-same}
 use Rattle.tables.proofs.Inside.{columns-fit, terms-fit, alpha-terms, entry-at}
 use Rattle.walk.proofs.Glance.{rows-small}
 use Rattle.tables.proofs.fill_alpha.Statement.{statement}
@@ -31,7 +31,7 @@ float-rows-requires c κs =
     let d = c .before .before .before .before .before .before in
     let start = d .before .before .before .before .before in
     let rows = d .before .before .before .row-sums in
-    let power = c .before .before .before .before .before .remainder-power in (
+    let power = c .before .before .before .before .before .scale-power in (
       power .ensures .1,
       omega (arith, c .before .before .before .u16-from-bits .ensures),
       start .pre .1,
@@ -44,7 +44,7 @@ returns c =
     let u = c .before .before .before .before .before .before .u16-from-bits in
     let d = c .before .before .before .before .before .before .before .before .before in
     let start = d .before .before .before .before .before in
-    let power = c .before .before .before .before .before .before .before .before .remainder-power in
+    let power = c .before .before .before .before .before .before .before .before .scale-power in
     let rows = d .before .before .before .row-sums in
     let same : (p : ℕ) → p < 768 → dyadic (rowEntry (w d) (rows .result) (d .narrowed .result) 4 6 (power .result) (p / 32) (p % 32)) (u .result + 30) ≡ alphaAt (w d) p =
     λ p h. ap (λ (z : ℤ). dyadic z (u .result + 30)) (entry-at (w d) 0x20 4 (rows .result) (d .narrowed .result) (power .result) (rows .ensures .0) (columns-are d) (power .ensures .0) p h)

@@ -13,7 +13,7 @@ use Rattle.util.specs.Words.{listed}
 use Rattle.walk.specs.Parts.{ktaAverage, ktaSum}
 use Rattle.tables.specs.Entries.{ktaAt}
 use Rattle.walk.specs.Inner.Rows.{rowEntry}
-use Rattle.tables.proofs.Filled.{tab-same}
+use Rattle.util.proofs.Filled.{tab-same}
 use Rattle.walk.proofs.Glance.{zeros-small}
 use Rattle.tables.proofs.Inside.{kta-columns-fit, kta-terms-fit, kta-at}
 use Rattle.tables.proofs.fill_k_ta.Statement.{statement}
@@ -30,7 +30,7 @@ float-rows-requires : tie.Need-float-rows-requires
 float-rows-requires c κs =
     let d = c .before .before .before .before .before .before in
     let start = d .before .before .before .before in
-    let power = c .before .before .before .before .before .remainder-power in (
+    let power = c .before .before .before .before .before .scale-power in (
       power .ensures .1,
       omega (arith, c .before .before .before .u16-from-bits .ensures),
       start .pre .1,
@@ -43,7 +43,7 @@ returns c =
     let u = c .before .before .before .before .before .before .u16-from-bits in
     let d = c .before .before .before .before .before .before .before .before .before in
     let start = d .before .before .before .before in
-    let power = c .before .before .before .before .before .before .before .before .remainder-power in
+    let power = c .before .before .before .before .before .before .before .before .scale-power in
     let same : (p : ℕ) → p < 768 → dyadic (rowEntry (w d) (replicate 24 (pos 0)) (d .narrowed .result) 1 3 (power .result) (p / 32) (p % 32)) (u .result + 8) ≡ ktaAt (w d) p =
     λ p h. ap (λ (z : ℤ). dyadic z (u .result + 8)) (kta-at (w d) (d .narrowed .result) (power .result) (columns-are d) (power .ensures .0) p h)
     ∙ ap (λ (n : ℕ). dyadic (ktaSum (w d) p) (n + 8)) (u .ensures) in

@@ -9,7 +9,7 @@ use lib.ListN.{drop, getD}
 use lib.IntN.{ℤ, pos}
 use Rattle.walk.specs.Parts.{columnTerm}
 use Rattle.util.specs.Words.{listed}
-use Rattle.tables.proofs.Filled.{tab-same}
+use Rattle.util.proofs.Filled.{tab-same}
 use Rattle.tables.proofs.Inside.{columns-fit, terms-fit, offset-terms, offset-fits, entry-at}
 use Rattle.walk.proofs.Glance.{entry-is, rows-small}
 use Rattle.tables.proofs.fill_offset.Statement.{statement}
@@ -27,7 +27,7 @@ offset-rows-requires c κs =
     let d = c .before .before .before .before in
     let start = d .before .before .before .before in
     let rows = d .before .before .before .row-sums in
-    let power = c .before .before .before .remainder-power in (
+    let power = c .before .before .before .scale-power in (
       power .ensures .1,
       start .pre .1,
       rows-small (w d) 0x10 (rows .result) (rows .ensures .0),
@@ -41,7 +41,7 @@ returns c =
     let d = c .before .before .before .before .before .before in
     let start = d .before .before .before .before in
     let rows = d .before .before .before .row-sums in
-    let power = c .before .before .before .before .before .remainder-power in
+    let power = c .before .before .before .before .before .scale-power in
     c .before .offset-rows .ensures
     ∙ ap (λ (l : List ℤ). l ++ drop 768 (start .args .out .now))
     (tab-same _ _ 768 (entry-at (w d) 0x10 10 (rows .result) (d .narrowed .result) (power .result) (rows .ensures .0) (columns-are d) (power .ensures .0)))

@@ -13,9 +13,9 @@ use Rattle.exact.specs.Dyadic.{dyadic, twoTo}
 use Rattle.exact.proofs.Exact.{of-int-over}
 use Rattle.util.specs.Words.{listed}
 use Rattle.util.proofs.Whole.{back32}
-use Rattle.tables.specs.Tab.{tab}
+use Rattle.util.specs.Lists.{tab}
 use Rattle.walk.specs.Inner.Rows.{rowEntry}
-use Rattle.tables.proofs.Filled.{tab-none, tab-more, tab-whole}
+use Rattle.util.proofs.Filled.{tab-none, tab-more, tab-whole}
 use Rattle.tables.proofs.float_row.Statement.{statement}
 use Rattle.tables.proofs.float_row.Tie as tie
 

@@ -9,9 +9,10 @@ use lib.ListN.{length, drop, length-take, length-drop}
 use lib.Ieee.{Float}
 use Rattle.exact.specs.Dyadic.{dyadic}
 use Rattle.util.specs.Words.{listed}
-use Rattle.tables.specs.Tab.{tab}
+use Rattle.util.specs.Lists.{tab}
 use Rattle.walk.specs.Inner.Rows.{rowEntry}
-use Rattle.tables.proofs.Filled.{tab-none, put-part, row-place, length-put}
+use Rattle.util.proofs.Filled.{tab-none, put-part, length-put}
+use Rattle.util.proofs.Pixels.{row-place}
 use Rattle.tables.proofs.float_rows.Statement.{statement}
 use Rattle.tables.proofs.float_rows.Tie as tie
 

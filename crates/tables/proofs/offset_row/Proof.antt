@@ -11,9 +11,9 @@ use mir.Syntax.{w16, w32}
 use mir.Val.{SFits, toZ, ofZ}
 use Rattle.util.specs.Words.{listed}
 use Rattle.util.proofs.Whole.{back32, fits-16}
-use Rattle.tables.specs.Tab.{tab}
+use Rattle.util.specs.Lists.{tab}
 use Rattle.walk.specs.Inner.Rows.{rowEntry}
-use Rattle.tables.proofs.Filled.{tab-none, tab-more, tab-whole}
+use Rattle.util.proofs.Filled.{tab-none, tab-more, tab-whole}
 use Rattle.tables.proofs.offset_row.Statement.{statement}
 use Rattle.tables.proofs.offset_row.Tie as tie
 

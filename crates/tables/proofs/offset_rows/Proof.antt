@@ -7,9 +7,10 @@ use Prim.Native.Nat.{ℕ, _+_, _*_, _-_, _/_, _%_, _≤_}
 use lib.ListN.{length, drop, length-take, length-drop}
 use lib.IntN.{ℤ}
 use Rattle.util.specs.Words.{listed}
-use Rattle.tables.specs.Tab.{tab}
+use Rattle.util.specs.Lists.{tab}
 use Rattle.walk.specs.Inner.Rows.{rowEntry}
-use Rattle.tables.proofs.Filled.{tab-none, put-part, row-place, length-put}
+use Rattle.util.proofs.Filled.{tab-none, put-part, length-put}
+use Rattle.util.proofs.Pixels.{row-place}
 use Rattle.tables.proofs.offset_rows.Statement.{statement}
 use Rattle.tables.proofs.offset_rows.Tie as tie
 

@@ -9,7 +9,7 @@ use Rattle.steps.specs.Steps.{firstOutside}
 use Rattle.walk.specs.Walk.{tableSteps, walk}
 use Rattle.refusal.specs.declared.Table.the-variants.{Alpha, Kta}
 use Rattle.util.proofs.Tests.{not-over}
-use Rattle.steps.proofs.Order.{or-refused, or-passed}
+use Rattle.refusal.proofs.Order.{or-refused, or-passed}
 use Rattle.walk.proofs.Walked.{walk-order}
 use Rattle.walk.proofs.first_refusal.Statement.{statement}
 use Rattle.walk.proofs.first_refusal.Tie as tie

@@ -31,6 +31,11 @@ rowEntry w rows columns low width power r c = columnPart rows columns r c +ℤ o
 abbrev pub Small : ℕ → List ℤ → Type 0
 Small n l = (k : ℕ) → k < n → natAbs (getD l k (pos 0)) ≤ 0x100000
 
+-- every remainder's term and every entry of row r is inside 16 bits
+abbrev pub RowInside : (ℕ → ℕ) → List ℤ → List ℤ → ℕ → ℕ → ℕ → ℕ → Type 0
+RowInside w rows columns low width power r =
+    (c : ℕ) → c < 32 → (in16 (ownTerm w low width power r c) ≡ true) × (in16 (rowEntry w rows columns low width power r c) ≡ true)
+
 -- the terms of the first n nibbles from word base + first on fit 16 bits
 abbrev pub Fitting : (ℕ → ℕ) → ℕ → ℕ → ℕ → ℕ → Type 0
 Fitting w base first low n = (k : ℕ) → k < n → in16 (termOf (nibble w (base + first) k) (field (w base) low 4)) ≡ true

@@ -11,4 +11,4 @@ returns : tie.Need-returns
 returns c = λ e. omega (arith, c .scale-power .ensures .0, ltb-true (128 + 4 * c .scale-power .result) 32768 e)
 
 pub calm-k-ta-spec : {M : Type 1} → statement M
-calm-k-ta-spec = tie.close (tie.spec (λ c κs. search needs) (λ c. search needs) (λ c. search needs) returns)
+calm-k-ta-spec = tie.close (tie.spec (λ c κs. search needs) (λ c. search needs) (λ c. search needs) (λ c. search needs) returns)

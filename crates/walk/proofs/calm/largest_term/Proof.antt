@@ -30,5 +30,6 @@ largest-term-spec =
     (λ c. search needs)
     (λ c κs. (omega arith, omega arith))
     (λ c κs. search needs)
+    (λ c. search needs)
     (λ c. record { fits = lt-of-le-of-lt (product c) (lit< tt) })
     returns)

@@ -7,8 +7,9 @@ use native.Mathlib.Omega.{arith}
 use mathlib.Core.Path.{_≡_, ap, _∙_}
 use Prim.Native.Nat.{ℕ, _-_, _≤_, _<_}
 use lib.IntN.{natAbs}
+use lib.Signed.{natAbs-le}
 use Rattle.util.specs.Words.{listed}
-use Rattle.util.proofs.Whole.{back16}
+use Rattle.util.proofs.Whole.{wide, widens}
 use Rattle.walk.specs.Parts.{nibble}
 use Rattle.walk.proofs.calm.reach.Statement.{statement}
 use Rattle.walk.proofs.calm.reach.Tie as tie
@@ -26,11 +27,12 @@ loop-again c =
     let k = at-loop .loop .k in
     let n = c .before .before .nibble-at in
     let m = c .before .magnitude in
-    let size : m .result ≡ natAbs (nibble (listed (s .words .now)) (s .first) k) = m .ensures .0 ∙ ap natAbs (back16 (n .result) (n .ok) ∙ n .ensures) in
+    let size : m .result ≡ natAbs (nibble (listed (s .words .now)) (s .first) k) = m .ensures ∙ ap natAbs (wide {z = n .result} (record { sfits = n .ok }) ∙ n .ensures) in
+    let small : m .result ≤ 32768 = rw (m .ensures, wide {z = n .result} (record { sfits = n .ok })) (natAbs-le (n .result) (n .ok)) in
     let here : natAbs (nibble (listed (s .words .now)) (s .first) k) ≤ c .larger .result = omega (arith, size, c .larger .ensures .1) in (
       omega arith,
       below-more _ k (λ j h. le-trans (at-loop .loop .inv .1 j h) (c .larger .ensures .0)) here,
-      c .larger .ensures .2 32768 (at-loop .loop .inv .2) (m .ensures .1),
+      c .larger .ensures .2 32768 (at-loop .loop .inv .2) small,
     )
 
 returns : tie.Need-returns Inv-loop μ-loop
@@ -46,6 +48,7 @@ reach-spec =
     μ-loop
     (λ c. (omega arith, (λ j h. absurd (omega arith)), omega arith))
     (λ c κs. (omega arith, omega arith))
+    (λ c. widens {z = c .nibble-at .result} (record { sfits = c .nibble-at .ok }))
     (λ c κs. search needs)
     (λ c κs. search needs)
     (λ c. omega arith)

@@ -24,4 +24,4 @@ returns c =
 pub alpha-pixel-spec : {M : Type 1} → statement M
 alpha-pixel-spec =
     tie.close
-    (tie.spec (λ c κs. search needs) (λ c κs. search needs) (λ c κs. search needs) (λ c κs. search needs) returns)
+    (tie.spec (λ c κs. search needs) (λ c κs. search needs) (λ c κs. search needs) (λ c. search needs) (λ c κs. search needs) returns)

@@ -46,6 +46,7 @@ k-ta-pixel-spec =
     (λ c κs. search needs)
     (λ c. fits w32 (called w16 (c .k-ta-average .ensures) (c .k-ta-average .ok) tt) tt)
     (λ c κs. search needs)
+    (λ c. search needs)
     (λ c. fits w32 (total c) tt)
     (λ c κs. search needs)
     returns)

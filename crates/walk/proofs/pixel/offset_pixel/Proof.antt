@@ -72,6 +72,7 @@ offset-pixel-spec =
     (λ c κs. search needs)
     (λ c κs. search needs)
     (λ c κs. search needs)
+    (λ c. search needs)
     (λ c. fits w32 (two c) tt)
     (λ c. fits w32 (three c) tt)
     (λ c. fits w32 (four c) tt)

@@ -10,7 +10,8 @@ use Rattle.util.specs.Words.{listed}
 use Rattle.steps.specs.Steps.{stepsFrom, firstOutside}
 use Rattle.walk.specs.Walk.{pixelSteps}
 use Rattle.util.proofs.Tests.{not-over}
-use Rattle.steps.proofs.Order.{steps-end, steps-turn, or-refused, or-passed}
+use Rattle.refusal.proofs.Order.{or-refused, or-passed}
+use Rattle.steps.proofs.Order.{steps-end, steps-turn}
 use Rattle.walk.proofs.rows.pixels.Statement.{statement}
 use Rattle.walk.proofs.rows.pixels.Tie as tie
 

@@ -10,7 +10,8 @@ use Rattle.util.specs.Words.{listed}
 use Rattle.steps.specs.Steps.{stepsFrom, firstOutside}
 use Rattle.walk.specs.Walk.{pixelSteps, tableSteps}
 use Rattle.util.proofs.Tests.{not-over}
-use Rattle.steps.proofs.Order.{steps-end, steps-part, or-refused, or-passed}
+use Rattle.refusal.proofs.Order.{or-refused, or-passed}
+use Rattle.steps.proofs.Order.{steps-end, steps-part}
 use Rattle.walk.proofs.rows.table_refusal.Statement.{statement}
 use Rattle.walk.proofs.rows.table_refusal.Tie as tie
 
