@@ -10,15 +10,16 @@ use lib.IntN.{ℤ, pos}
 use lib.Ieee.{Float, nan}
 use lib.ListN.{getD}
 use mathlib.Core.List.{List}
+use Rattle.exact.specs.Dyadic.{plusZero}
 use Rattle.exact.proofs.Values.{zero-is}
 use Rattle.camera.specs.declared.AccessPattern.{AccessPattern}
 use Rattle.camera.specs.declared.AccessPattern.the-variants.{Interleave, Chess}
 use Rattle.camera.specs.declared.Subpage.{Subpage}
 use Rattle.camera.specs.declared.Subpage.the-variants.{Zero, One}
-use Rattle.record.specs.Fraction.{float}
-use Rattle.record.specs.Fields.{recordOf, plusZero}
+use Rattle.exact.specs.Fraction.{float}
+use Rattle.record.specs.Fields.{recordOf}
 use Rattle.record.specs.Questions.{correctionCp, alphaCpOf, offsetReferenceCpOf}
-use Rattle.record.specs.Datasheet as D
+use Rattle.datasheet.specs.Formulas as D
 use Rattle.record.specs.declared.Optional.{Optional}
 use Rattle.record.specs.declared.Optional.the-variants.{Absent, Given}
 use Rattle.record.proofs.Agreement.{agrees}
