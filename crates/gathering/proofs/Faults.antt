@@ -12,13 +12,13 @@ use lib.Dec.{ltb}
 use Rattle.refusal.specs.declared.Refusal.{Refusal}
 use Rattle.refusal.specs.declared.Refusal.the-variants.{None, WordInConflict, WordMissing}
 use Rattle.gathering.specs.Cells.{missing, conflict, isMissing, inConflict}
-use Rattle.gathering.specs.Lists.{lowest}
+use Rattle.util.specs.Lists.{lowest}
 use Rattle.gathering.specs.State.{cellAt, wordOf, faultFrom, faultOf}
 use Rattle.gathering.specs.History.{History, Rule, StateOf, WordIn, Lowest, NoWord, Faults, FaultIn, FaultAt}
 use Rattle.gathering.specs.declared.Gathering.{Gathering}
 use Rattle.gathering.specs.declared.Word.{Word}
 use Rattle.gathering.proofs.Counts.{is-missing, is-conflict}
-use Rattle.gathering.proofs.Lists.{lowest-at, lowest-none}
+use Rattle.util.proofs.Lists.{lowest-at, lowest-none}
 use Rattle.gathering.proofs.Rule.{rule-only}
 
 -- ---- the two ends of a search

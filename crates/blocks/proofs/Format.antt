@@ -2,29 +2,25 @@
 -- Assumes nothing.
 use Prim.Native.Nat.{ℕ, zero, suc, _+_, _-_, _*_, _≤_, _<_}
 use mathlib.Core.Path.{_≡_, refl, sym, ap, ap₂, subst, _∙_}
-use mathlib.Core.Bool.{cond, _&&_}
 use mathlib.Core.Logic.{_↔_}
 use mathlib.Core.List.{List, [], _∷_, _++_}
 use native.Mathlib.Nat.{div-add-mod'}
 use native.Mathlib.Decide.{decLt}
-use native.Mathlib.Numerals.{one-add}
 use native.Mathlib.Omega.{arith}
-use lib.Dec.{leb, ltb, lit<}
+use lib.Dec.{lit<}
 use lib.ListN.{length, getD, drop, List·getD-eq-default}
 use lib.Seq.{ext-getD, getD-drop}
 use Rattle.util.specs.Words.{wordAt, listed}
-use Rattle.util.specs.Bytes.{two, bytesOf}
-use Rattle.tables.specs.Tab.{tab}
-use Rattle.tables.proofs.Filled.{tab-at, tab-length, tab-same}
-use Rattle.eeprom.proofs.Datasheet.{Bytes}
+use Rattle.util.specs.Bytes.{two, flat, bytesOf}
+use Rattle.util.specs.Lists.{tab}
+use Rattle.util.proofs.Filled.{tab-at, tab-length, tab-same}
 use Rattle.refusal.specs.declared.Refusal.{Refusal}
 use Rattle.refusal.specs.declared.Refusal.the-variants.{None}
-use Rattle.gathering.specs.Cells.{missing, held}
-use Rattle.gathering.specs.Blocks.{blockBytes, IsBlock, countField, versionOf, bodyOf, readBlock, whyRefused, blockRefusal, carriedIn, carriedBy}
-use Rattle.gathering.specs.declared.Block.{Block}
-use Rattle.gathering.specs.declared.Block.the-variants.{Words, Refused}
-use Rattle.gathering.proofs.Bytes.{word-of-bytes, length-bytes}
-use Rattle.gathering.proofs.Blocks.{Way, unsized, uncounted, other, beyond, taken, way, Taken, taken-exactly}
+use Rattle.blocks.specs.Blocks.{blockBytes, IsBlock, countField, versionOf, bodyOf, readBlock, whyRefused, blockRefusal}
+use Rattle.blocks.specs.declared.Block.{Block}
+use Rattle.blocks.specs.declared.Block.the-variants.{Words, Refused}
+use Rattle.util.proofs.Bytes.{Bytes, word-of-bytes, length-bytes}
+use Rattle.blocks.proofs.Refusals.{Way, unsized, uncounted, other, beyond, taken, way, Taken, taken-exactly}
 
 never : (b : List ℕ) (why : Refusal) → Way b → readBlock b ≡ Refused why → why ≡ None → ⊥
 never b why (unsized n d) e a = let z : _≡_ {A = ℕ} 0 1 = cc in omega arith
@@ -47,7 +43,7 @@ next-word x y l k =
     ap₂ (λ (i j : ℕ). getD (x ∷ y ∷ l) i 0 * 256 + getD (x ∷ y ∷ l) j 0) even odd
 
 words-back : (n : ℕ) (l : List ℕ) → length l ≡ 2 * n → Bytes l → bytesOf (tab (wordAt l) n) ≡ l
-unfolding tab bytesOf
+unfolding tab flat
 words-back zero [] e h = refl
 words-back zero (x ∷ l) e h = absurd (omega arith)
 words-back (suc n) [] e h = absurd (omega arith)
@@ -63,7 +59,7 @@ wordsOf b n = tab (λ k. wordAt (bodyOf b) (suc k)) n
 
 -- what the tests let through has the format
 formed : (b : List ℕ) → Bytes b → (first n : ℕ) → Taken b first n → b ≡ blockBytes first (wordsOf b n)
-unfolding blockBytes bytesOf tab
+unfolding blockBytes flat tab
 formed [] h first n t = absurd (omega (arith, t .counted .sized .counted))
 formed (x ∷ []) h first n t = absurd (omega (arith, t .counted .sized .counted))
 formed (x ∷ y ∷ []) h first n t = absurd (omega (arith, t .counted .sized .whole, t .counted .words))
@@ -89,10 +85,10 @@ block-version first words = refl
 
 -- the body's words are the first word's number and the words
 block-word : (first : ℕ) (words : List ℕ) (k : ℕ) → wordAt (bodyOf (blockBytes first words)) k ≡ listed (first ∷ words) k
-unfolding blockBytes two bytesOf
+unfolding blockBytes two flat
 block-word first words k = word-of-bytes (first ∷ words) k
 
-taken-if : (b : List ℕ) (first : ℕ) (words : List ℕ) → IsBlock b first words → Taken b first (length words)
+pub taken-if : (b : List ℕ) (first : ℕ) (words : List ℕ) → IsBlock b first words → Taken b first (length words)
 taken-if b first words k = subst (λ (s : List ℕ). Taken s first (length words)) (sym (k .bytes)) (
     record {
       counted = record {
@@ -107,7 +103,7 @@ taken-if b first words k = subst (λ (s : List ℕ). Taken s first (length words
     }
     )
 
-words-are : (b : List ℕ) (first : ℕ) (words : List ℕ) → IsBlock b first words → (k : ℕ) → wordAt (bodyOf b) (suc k) ≡ listed words k
+pub words-are : (b : List ℕ) (first : ℕ) (words : List ℕ) → IsBlock b first words → (k : ℕ) → wordAt (bodyOf b) (suc k) ≡ listed words k
 words-are b first words t k = ap (λ (s : List ℕ). wordAt (bodyOf s) (suc k)) (t .bytes) ∙ block-word first words (suc k)
 
 word-small : (b : List ℕ) → Bytes b → (n k : ℕ) → listed (wordsOf b n) k < 0x1_0000
@@ -157,10 +153,3 @@ module _ (b : List ℕ) (bytes : Bytes b) where
           let long : n ≡ length (wordsOf b n) = sym (tab-length (λ m. wordAt (bodyOf b) (suc m)) n) in
           (first, wordsOf b n, accepted-with first (wordsOf b n) .0 (e ∙ ap (Words first) long, ap (wordsOf b) long))
       to (Refused why) e a = absurd (never b why (way b) e (sym (ap whyRefused e) ∙ a))
-
--- what an accepted block carries: the words, in their order from the first one's number on, and nothing else
-pub carries : (b : List ℕ) (first : ℕ) (words : List ℕ) → IsBlock b first words → (w : ℕ)
-    → carriedBy b w ≡ cond (leb first w && ltb w (first + length words)) (held (listed words (w - first))) missing
-carries b first words k w =
-    ap (λ (r : Block). carriedIn r b w) (taken-exactly b first (length words) .1 (taken-if b first words k))
-    ∙ ap (λ (v : ℕ). cond (leb first w && ltb w (first + length words)) (held v) missing) (ap (wordAt (bodyOf b)) (one-add (w - first)) ∙ words-are b first words k (w - first))

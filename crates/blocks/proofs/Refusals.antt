@@ -10,8 +10,8 @@ use borrow.Author.Tests.{ltb-true, ltb-false, eqb-true, eqb-false}
 use lib.Dec.{eqb, ltb}
 use lib.ListN.{length}
 use Rattle.refusal.specs.declared.Refusal.the-variants.{BlockLength, BlockCount, BlockVersion, BlockRange}
-use Rattle.gathering.specs.Blocks.{countField, largest, versionOf, firstWordOf, wordCount, readBlock, whyRefused, blockRefusal}
-use Rattle.gathering.specs.declared.Block.the-variants.{Words, Refused}
+use Rattle.blocks.specs.Blocks.{countField, largest, versionOf, firstWordOf, wordCount, readBlock, whyRefused, blockRefusal}
+use Rattle.blocks.specs.declared.Block.the-variants.{Words, Refused}
 
 module _ (b : List ℕ) where
   -- there is an L, and it counts the bytes after it
