@@ -39,7 +39,7 @@ typedef uint64_t mofuleka_answer;
 
 /* The refusals by name. */
 #define MOFULEKA_ACCEPTED 0u
-#define MOFULEKA_IMAGE_LENGTH 1u        /* the image has fewer than 1664 bytes */
+#define MOFULEKA_IMAGE_LENGTH 1u        /* the image is too short */
 #define MOFULEKA_SHORT_SLICE 2u         /* a slice is too short for what goes into it */
 #define MOFULEKA_TERM_OUTSIDE 3u        /* a scaled term is outside 16 bits; table and pixel given */
 #define MOFULEKA_SUM_OUTSIDE 4u         /* the final sum is outside 16 bits; table and pixel given */
@@ -53,6 +53,36 @@ typedef uint64_t mofuleka_answer;
 #define MOFULEKA_RANGE_NUMBER 12u       /* a range number at or past the count */
 #define MOFULEKA_RESOLUTION 13u         /* a resolution above 15 */
 #define MOFULEKA_PATTERN_OR_SUBPAGE 14u /* a pattern or subpage above 1 */
+
+/* How many bytes each layout has: for buffers of a fixed size. */
+#define MOFULEKA_IMAGE_BYTES 1664u
+#define MOFULEKA_OFFSET_TABLE_BYTES 1536u
+#define MOFULEKA_ALPHA_TABLE_BYTES 3072u
+#define MOFULEKA_K_TA_TABLE_BYTES 3072u
+#define MOFULEKA_RECORD_BYTES 122u
+#define MOFULEKA_GATHERING_BYTES 2496u
+
+/* Where each field of a record starts in its bytes. docs/INTERFACE.md has the forms. */
+#define MOFULEKA_RECORD_K_V_DD 0u
+#define MOFULEKA_RECORD_V_DD_25 2u
+#define MOFULEKA_RECORD_RESOLUTION 4u
+#define MOFULEKA_RECORD_K_V_PTAT 5u
+#define MOFULEKA_RECORD_K_T_PTAT 9u
+#define MOFULEKA_RECORD_V_PTAT_25 13u
+#define MOFULEKA_RECORD_ALPHA_PTAT 17u
+#define MOFULEKA_RECORD_GAIN 21u
+#define MOFULEKA_RECORD_K_S_TA 25u
+#define MOFULEKA_RECORD_CORNER_TEMPERATURES 29u
+#define MOFULEKA_RECORD_K_S_TO 37u
+#define MOFULEKA_RECORD_ALPHA_CP 53u
+#define MOFULEKA_RECORD_OFFSET_REFERENCE_CP 61u
+#define MOFULEKA_RECORD_K_V_PATTERN 65u
+#define MOFULEKA_RECORD_K_V_CP 81u
+#define MOFULEKA_RECORD_K_TA_CP 85u
+#define MOFULEKA_RECORD_TEMPERATURE_GRADIENT_PRESENT 89u
+#define MOFULEKA_RECORD_TEMPERATURE_GRADIENT_COEFFICIENT 90u
+#define MOFULEKA_RECORD_INTERLEAVE_CORRECTION_PIXELS 94u
+#define MOFULEKA_RECORD_INTERLEAVE_CORRECTION_CP 118u
 
 /* ---- taking an answer apart ---- */
 
@@ -116,17 +146,17 @@ static inline float mofuleka_read_f32(const uint8_t *at) {
 
 /* ---- the sizes, in bytes; never refused ---- */
 
-/* 1664: an EEPROM image. */
+/* MOFULEKA_IMAGE_BYTES: an EEPROM image. */
 size_t mofuleka_image_bytes(void);
-/* 1536: the offset table, 768 signed 16-bit numbers. */
+/* MOFULEKA_OFFSET_TABLE_BYTES: the offset table, 768 signed 16-bit numbers. */
 size_t mofuleka_offset_table_bytes(void);
-/* 3072: the alpha table, 768 floats. */
+/* MOFULEKA_ALPHA_TABLE_BYTES: the alpha table, 768 floats. */
 size_t mofuleka_alpha_table_bytes(void);
-/* 3072: the Kta table, 768 floats. */
+/* MOFULEKA_K_TA_TABLE_BYTES: the Kta table, 768 floats. */
 size_t mofuleka_k_ta_table_bytes(void);
-/* 122: the record of all other fields. */
+/* MOFULEKA_RECORD_BYTES: the record of all other fields. */
 size_t mofuleka_record_bytes(void);
-/* 2496: a gathering. */
+/* MOFULEKA_GATHERING_BYTES: a gathering. */
 size_t mofuleka_gathering_bytes(void);
 
 /* ---- decoding ---- */
