@@ -46,7 +46,7 @@ impl Lent {
 }
 
 extern "C" {
-    fn speed_from_data(
+    fn bench_from_data(
         image: *const u8,
         image_len: usize,
         offset: *mut i16,
@@ -77,7 +77,7 @@ impl Own {
         // SAFETY: each pointer is a slice's or an array's, with its own number of entries; the four that are written are parts of one
         // exclusive borrow, so they overlap neither each other nor the image.
         let number = unsafe {
-            speed_from_data(
+            bench_from_data(
                 image.as_ptr(),
                 image.len(),
                 self.offset.as_mut_ptr(),
