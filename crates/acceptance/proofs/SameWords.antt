@@ -17,9 +17,9 @@ use Rattle.eeprom.proofs.SameWords.{SameWords, words-equal, same-answers}
 use Rattle.gathering.specs.State.{faultOf}
 use Rattle.gathering.specs.Decoding.{calibrationOf}
 use Rattle.gathering.specs.declared.Gathering.{Gathering}
-use Rattle.gathering.proofs.Bytes.{word-of-bytes, length-bytes}
+use Rattle.util.proofs.Bytes.{word-of-bytes, length-bytes}
 use Rattle.listing.specs.Listing.{listing}
-use Rattle.determined.specs.Determined.{Ending, Allows}
+use Rattle.acceptance.specs.Determined.{Ending, Allows}
 use Rattle.eeprom.proofs.from_data.Kinds as FromDataK
 use Rattle.eeprom.proofs.from_data.Reads as FromData
 use Rattle.listing.proofs.list_image.Kinds as ListImageK

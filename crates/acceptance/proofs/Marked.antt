@@ -17,13 +17,13 @@ use Rattle.record.specs.Fields.{recordOf, blankRecord, kVDd, vDd25, corners, gr
 use Rattle.walk.specs.Parts.{rowSum, columnSum, wholeSum, ktaSum}
 use Rattle.steps.specs.Steps.{stepsFrom, firstOutside}
 use Rattle.walk.specs.Walk.{termSteps, pixelSteps, tableSteps, walk}
-use Rattle.tables.specs.Tab.{tab}
-use Rattle.tables.proofs.Filled.{tab-at, tab-length}
+use Rattle.util.specs.Lists.{tab}
+use Rattle.util.proofs.Filled.{tab-at, tab-length}
 use Rattle.eeprom.specs.Image.{imageWords}
 use Rattle.eeprom.specs.Decoding.{refusalOf, answered, decodedOf}
 use Rattle.eeprom.specs.declared.Decoded.{Decoded}
-use Rattle.gathering.proofs.Bytes.{word-of-bytes, length-bytes}
-use Rattle.scope.specs.Readings.{Set, Question, zeros, image, block, setWords, imageOf, decoded, asked, told, answer, readings}
+use Rattle.util.proofs.Bytes.{word-of-bytes, length-bytes}
+use Rattle.acceptance.specs.Readings.{Set, Question, zeros, image, block, setWords, imageOf, decoded, asked, told, answer, readings}
 
 -- the words that count of an image that is zero but for these
 abbrev counted : List Set → ℕ → ℕ

@@ -9,14 +9,14 @@ use lib.Dec.{eqb}
 use lib.IntN.{ℤ, pos, negsuc}
 use lib.Ieee.{Float, binary32, toBits}
 use lib.ListN.{replicate, take}
+use Rattle.exact.specs.Dyadic.{plusZero}
 use Rattle.refusal.specs.Code.{codeOf}
 use Rattle.refusal.specs.declared.Refusal.{Refusal}
 use Rattle.util.specs.Bytes.{bytesOf}
-use Rattle.record.specs.Fields.{plusZero}
 use Rattle.record.specs.declared.Record.{Record}
 use Rattle.record.specs.declared.Optional.{Optional}
 use Rattle.record.specs.declared.Optional.the-variants.{Absent, Given}
-use Rattle.tables.specs.Tab.{tab}
+use Rattle.util.specs.Lists.{tab}
 use Rattle.tables.specs.Entries.{offsetAt, alphaAt, ktaAt}
 use Rattle.eeprom.specs.Image.{imageWords}
 use Rattle.eeprom.specs.Decoding.{decodedOf, tableAfter}

@@ -7,11 +7,11 @@ use lib.IntN.{pos, negsuc}
 use lib.Ieee.{nan, neg}
 use lib.ListN.{getD}
 use Rattle.refusal.specs.declared.Refusal.the-variants.{None}
-use Rattle.exact.specs.Dyadic.{dyadic, minusZero}
+use Rattle.exact.specs.Dyadic.{dyadic, minusZero, plusZero}
 use Rattle.util.specs.Sums.{in16}
-use Rattle.record.specs.Fraction.{_/2^_, float}
-use Rattle.record.specs.Fields.{recordOf, plusZero, alphaPtat, gradientOf, A, B, C, interleaveSix}
-use Rattle.record.specs.Datasheet as D
+use Rattle.exact.specs.Fraction.{_/2^_, float}
+use Rattle.record.specs.Fields.{recordOf, alphaPtat, gradientOf, A, B, C, interleaveSix}
+use Rattle.datasheet.specs.Formulas as D
 use Rattle.record.specs.declared.Optional.the-variants.{Absent}
 use Rattle.walk.specs.Parts.{rowSum, columnSum, wholeSum, ktaSum}
 use Rattle.steps.specs.Steps.{stepsFrom, firstOutside}
@@ -19,8 +19,8 @@ use Rattle.walk.specs.Walk.{termSteps, pixelSteps, tableSteps, walk}
 use Rattle.tables.specs.Entries.{alphaAt}
 use Rattle.eeprom.specs.Image.{imageWords}
 use Rattle.eeprom.specs.declared.Decoded.{Decoded}
-use Rattle.scope.specs.Readings.{Set, _≔_, setWords, imageOf, decoded}
-use Rattle.scope.proofs.Marked.{set-words, decoded-set}
+use Rattle.acceptance.specs.Readings.{Set, _≔_, setWords, imageOf, decoded}
+use Rattle.acceptance.proofs.Marked.{set-words, decoded-set}
 
 -- an image that is accepted, what is answered of it, and what the datasheet's formula gives for it
 pub record Differs {X Y : Type 0} (s : List Set) (ours : Decoded → (ℕ → ℕ) → X) (theirs : (ℕ → ℕ) → Y) (x : X) (y : Y) : Type 0 where

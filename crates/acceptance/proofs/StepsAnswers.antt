@@ -1,7 +1,7 @@
 -- The public function of `steps` has no second answer, and asks for nothing: its contract is an equation for what is answered.
 -- Assumes nothing.
 use mathlib.Core.Path.{sym, _∙_}
-use Rattle.determined.specs.Determined.{EntryPoint}
+use Rattle.acceptance.specs.Determined.{EntryPoint}
 use Rattle.steps.proofs.first_of.Kinds as FirstOfK
 use Rattle.steps.proofs.first_of.Reads as FirstOf
 

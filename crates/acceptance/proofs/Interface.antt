@@ -22,17 +22,19 @@ use Rattle.gathering.specs.State.{freshState, faultOf, Full}
 use Rattle.gathering.specs.History.{History, StateOf, From}
 use Rattle.gathering.specs.Decoding.{gatheredWords}
 use Rattle.gathering.proofs.Promises.{image-faultless, same-words}
+use Rattle.layout.specs.Sizes.{imageSize, gatheringSize}
 use Rattle.layout.specs.RecordBytes.{recordBytes}
 use Rattle.layout.specs.GatheringBytes.{gatheringIn}
 use Rattle.mofuleka.specs.Answers.{refusalWord}
-use Rattle.mofuleka.specs.Decoding.{slicesRefusal, lentAfter, offsetBytes, alphaBytes, ktaBytes}
-use Rattle.mofuleka.specs.Gatherings.{storedGathering, gatheredRefusal}
-use Rattle.determined.specs.Determined.{Ending, Allows}
+use Rattle.mofuleka.specs.Images.{slicesRefusal, lentAfter, offsetBytes, alphaBytes, ktaBytes}
+use Rattle.mofuleka.specs.Gatherings.{storedWords, gatheredRefusal}
+use Rattle.mofuleka.proofs.Gathered.{slices-same}
+use Rattle.acceptance.specs.Determined.{Ending, Allows}
 use Rattle.mofuleka.proofs.mofuleka_from_data.Kinds as FromDataK
 use Rattle.mofuleka.proofs.mofuleka_from_data.Reads as FromData
 use Rattle.mofuleka.proofs.mofuleka_gathering_from_data.Kinds as GatheredK
 use Rattle.mofuleka.proofs.mofuleka_gathering_from_data.Reads as Gathered
-use Rattle.scope.proofs.SameWords.{SameHeld, held-words}
+use Rattle.acceptance.proofs.SameWords.{SameHeld, held-words}
 
 -- ---- the form of both contracts
 -- the four slices
@@ -43,10 +45,10 @@ record Slices : Type 0 where
   rec : List ℕ
 
 abbrev Refuses : Type 0
-Refuses = ℕ → ℕ → ℕ → ℕ → Refusal
+Refuses = List ℕ → List ℕ → List ℕ → List ℕ → Refusal
 
 abbrev refusalFor : Refuses → Slices → Refusal
-refusalFor f s = f (length (s .offset)) (length (s .alpha)) (length (s .kta)) (length (s .rec))
+refusalFor f s = f (s .offset) (s .alpha) (s .kta) (s .rec)
 
 -- the answer word of a refusal, and what is laid into the slices over the words w
 record Laid (f : Refuses) (w : ℕ → ℕ) (before : Slices) (r : ℕ) (after : Slices) : Type 0 where
@@ -57,9 +59,9 @@ record Laid (f : Refuses) (w : ℕ → ℕ) (before : Slices) (r : ℕ) (after :
   rec : after .rec ≡ lentAfter (eqb r 0) (recordBytes (recordOf w)) (before .rec)
 
 alike : {f g : Refuses} {w v : ℕ → ℕ} {s t : Slices} {r q : ℕ} {s' t' : Slices}
-    → ((o l k c : ℕ) → f o l k c ≡ g o l k c) → w ≡ v → s ≡ t → Laid f w s r s' → Laid g v t q t' → (r ≡ q) × (s' ≡ t')
+    → ((o l k c : List ℕ) → f o l k c ≡ g o l k c) → w ≡ v → s ≡ t → Laid f w s r s' → Laid g v t q t' → (r ≡ q) × (s' ≡ t')
 alike {f} {g} {s = s} {t} refuse words slices p q =
-    let given = refuse (length (s .offset)) (length (s .alpha)) (length (s .kta)) (length (s .rec)) ∙ (λ i. refusalFor g (slices i)) in
+    let given = refuse (s .offset) (s .alpha) (s .kta) (s .rec) ∙ (λ i. refusalFor g (slices i)) in
     let r = p .answers ∙ (ap refusalWord given ∙ sym (q .answers)) in
     let o = p .offset ∙ ((λ i. lentAfter (eqb (r i) 0) (offsetBytes (words i)) (slices i .offset)) ∙ sym (q .offset)) in
     let l = p .alpha ∙ ((λ i. lentAfter (eqb (r i) 0) (alphaBytes (words i)) (slices i .alpha)) ∙ sym (q .alpha)) in
@@ -67,19 +69,14 @@ alike {f} {g} {s = s} {t} refuse words slices p q =
     let c = p .rec ∙ ((λ i. lentAfter (eqb (r i) 0) (recordBytes (recordOf (words i))) (slices i .rec)) ∙ sym (q .rec)) in
     (r, λ i. record { offset = o i; alpha = l i; kta = k i; rec = c i })
 
--- an image's bytes, through its words
-slices-same : (a b : List ℕ) → SameWords a b → (o l k c : ℕ) → slicesRefusal a o l k c ≡ slicesRefusal b o l k c
-unfolding slicesRefusal
-slices-same a b s o l k c = rw (le-ltb (length a) 1664 (s .long-a), le-ltb (length b) 1664 (s .long-b), words-equal a b s)
-
 -- a full gathering's bytes, as the image that its values are
-as-image : (s : List ℕ) → 2496 ≤ length s → faultOf (gatheringIn s) ≡ None → (o l k c : ℕ) → gatheredRefusal s o l k c ≡ slicesRefusal (bytesOf (gatheringIn s .values)) o l k c
+as-image : (s : List ℕ) → gatheringSize ≤ length s → faultOf (gatheringIn s) ≡ None → (o l k c : List ℕ) → gatheredRefusal s o l k c ≡ slicesRefusal (bytesOf (gatheringIn s .values)) o l k c
 as-image s h full o l k c =
-    ap (λ (t : Bool). let g = cond t freshState (gatheringIn s) in orElse (cond t ShortSlice None) (orElse (faultOf g) (slicesRefusal (bytesOf (g .values)) o l k c))) (le-ltb (length s) 2496 h)
+    ap (λ (t : Bool). let g = cond t freshState (gatheringIn s) in orElse (orElse (cond t ShortSlice None) (faultOf g)) (slicesRefusal (bytesOf (g .values)) o l k c)) (le-ltb (length s) gatheringSize h)
     ∙ ap (λ (r : Refusal). orElse r (slicesRefusal (bytesOf (gatheringIn s .values)) o l k c)) full
 
-words-of : (s : List ℕ) → 2496 ≤ length s → gatheredWords (storedGathering s) ≡ imageWords (bytesOf (gatheringIn s .values))
-words-of s h = ap (λ (t : Bool). gatheredWords (cond t freshState (gatheringIn s))) (le-ltb (length s) 2496 h)
+words-of : (s : List ℕ) → gatheringSize ≤ length s → storedWords s ≡ imageWords (bytesOf (gatheringIn s .values))
+words-of s h = ap (λ (t : Bool). gatheredWords (cond t freshState (gatheringIn s))) (le-ltb (length s) gatheringSize h)
 
 -- ---- what each contract says, in that form
 module _ (κs : Lfts 5) where
@@ -113,7 +110,7 @@ module _ (κs : Lfts 5) where
     leftByGathering x = record { offset = x .lent .1 .0; alpha = x .lent .1 .1 .0; kta = x .lent .1 .1 .1 .0; rec = x .lent .1 .1 .1 .1 .0 }
 
     gathering-laid : (x : Ending GatheredK.ps GatheredK.r κs a) → ofGathering a x
-        → Laid (gatheredRefusal (now (a .0))) (gatheredWords (storedGathering (now (a .0)))) (lentIn a) (x .result) (leftByGathering x)
+        → Laid (gatheredRefusal (now (a .0))) (storedWords (now (a .0))) (lentIn a) (x .result) (leftByGathering x)
     gathering-laid x p = record { answers = p .0; offset = p .1 .0; alpha = p .1 .1 .0; kta = p .1 .1 .1 .0; rec = p .1 .1 .1 .1 .0 }
 
   -- ---- two images that agree in words 16..831
@@ -123,25 +120,25 @@ module _ (κs : Lfts 5) where
       (both .0, λ i. (tt, (both .1 i .offset, (both .1 i .alpha, (both .1 i .kta, (both .1 i .rec, tt))))))
 
   -- ---- two full gatherings that do
-  pub gathering-same : (a b : Call) (x : Ending GatheredK.ps GatheredK.r κs a) (y : Ending GatheredK.ps GatheredK.r κs b) → 2496 ≤ length (now (a .0)) → 2496 ≤ length (now (b .0))
+  pub gathering-same : (a b : Call) (x : Ending GatheredK.ps GatheredK.r κs a) (y : Ending GatheredK.ps GatheredK.r κs b) → gatheringSize ≤ length (now (a .0)) → gatheringSize ≤ length (now (b .0))
       → SameHeld (gatheringIn (now (a .0))) (gatheringIn (now (b .0))) → a .1 ≡ b .1 → ofGathering a x → ofGathering b y → (x .result ≡ y .result) × (x .lent ≡ y .lent)
   gathering-same a b x y ha hb s e p q =
       let g = gatheringIn (now (a .0)) in
       let k = gatheringIn (now (b .0)) in
       let bytes = held-words g k s in
-      let refuse : (o l r c : ℕ) → gatheredRefusal (now (a .0)) o l r c ≡ gatheredRefusal (now (b .0)) o l r c =
+      let refuse : (o l r c : List ℕ) → gatheredRefusal (now (a .0)) o l r c ≡ gatheredRefusal (now (b .0)) o l r c =
       λ o l r c. as-image (now (a .0)) ha (s .full-g) o l r c ∙ (slices-same (bytesOf (g .values)) (bytesOf (k .values)) bytes o l r c ∙ sym (as-image (now (b .0)) hb (s .full-k) o l r c)) in
       let words = words-of (now (a .0)) ha ∙ (words-equal (bytesOf (g .values)) (bytesOf (k .values)) bytes ∙ sym (words-of (now (b .0)) hb)) in
       let both = alike refuse words (lent-same a b e) (gathering-laid a x p) (gathering-laid b y q) in
       (both .0, λ i. (tt, (both .1 i .offset, (both .1 i .alpha, (both .1 i .kta, (both .1 i .rec, tt))))))
 
   -- ---- a full gathering of one image's blocks, and that image
-  pub gathering-as-image : (a b : Call) (x : Ending GatheredK.ps GatheredK.r κs a) (y : Ends b) (h : History) → 2496 ≤ length (now (a .0)) → 1664 ≤ length (now (b .0))
+  pub gathering-as-image : (a b : Call) (x : Ending GatheredK.ps GatheredK.r κs a) (y : Ends b) (h : History) → gatheringSize ≤ length (now (a .0)) → imageSize ≤ length (now (b .0))
       → StateOf h (gatheringIn (now (a .0))) → From (now (b .0)) h → Full (gatheringIn (now (a .0))) → a .1 ≡ b .1 → ofGathering a x → ofImage b y → (x .result ≡ y .result) × (x .lent ≡ y .lent)
   gathering-as-image a b x y h ha hb s from full e p q =
       let g = gatheringIn (now (a .0)) in
       let bytes = same-words (now (b .0)) h g s from full hb in
-      let refuse : (o l r c : ℕ) → gatheredRefusal (now (a .0)) o l r c ≡ slicesRefusal (now (b .0)) o l r c =
+      let refuse : (o l r c : List ℕ) → gatheredRefusal (now (a .0)) o l r c ≡ slicesRefusal (now (b .0)) o l r c =
       λ o l r c. as-image (now (a .0)) ha (image-faultless (now (b .0)) h g s from full) o l r c ∙ slices-same (bytesOf (g .values)) (now (b .0)) bytes o l r c in
       let words = words-of (now (a .0)) ha ∙ words-equal (bytesOf (g .values)) (now (b .0)) bytes in
       let both = alike refuse words (lent-same a b e) (gathering-laid a x p) (image-laid b y q) in
