@@ -1,23 +1,19 @@
-// Calls all 23 functions of the C interface, accepted and refused, and prints every answer and what the lent memory then holds. The gate
-// holds each line to the stored answers (stdout), which stand beside docs/INTERFACE.md: an answer that moved shows here.
-mod camera_calls;
-mod decoding_calls;
-mod gathering_calls;
-mod question_calls;
-mod samples;
+// Calls all 23 functions of the C interface, accepted and refused, and prints every answer and what the lent memory then holds. The calls stand on
+// standard input, a row for each; the table's head says what a row can be. The gate holds each line to the stored answers (stdout), which stand
+// beside docs/INTERFACE.md: an answer that moved shows here.
+mod decoding;
+mod gatherings;
+mod lent;
+mod questions;
+mod rows;
 mod say;
-mod size_calls;
+mod sizes;
 
-use camera_calls::camera_calls;
-use decoding_calls::decoding_calls;
-use gathering_calls::gathering_calls;
-use question_calls::question_calls;
-use size_calls::size_calls;
+use libc::STDIN_FILENO;
+use rows::all_rows;
 
 fn main() {
-    size_calls();
-    decoding_calls();
-    question_calls();
-    camera_calls();
-    gathering_calls();
+    let mut space = io::large_buffer();
+    let count = io::read_full(STDIN_FILENO, &mut space);
+    all_rows(&space[..count]);
 }

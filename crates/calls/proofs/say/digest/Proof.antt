@@ -1,7 +1,6 @@
 -- `calls::say::digest` is safe and ends: each turn goes one byte on, and the sum is cut before it grows.
 -- Assumes nothing.
 use borrow.Author.Needs.{needs}
-use native.Mathlib.Omega.{arith}
 use Prim.Native.Nat.{_-_}
 use lib.ListN.{length}
 use Rattle.calls.proofs.say.digest.Statement.{statement}
