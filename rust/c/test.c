@@ -14,9 +14,12 @@ static void check(int good, const char *what, int line) {
 }
 #define CHECK(what) check((what), #what, __LINE__)
 
-static uint8_t image[1664 + 8];
-static uint8_t offset[1536 + 8], alpha[3072 + 8], k_ta[3072 + 8], record[122 + 8];
-static uint8_t gathering[2496 + 8], other[2496 + 8];
+enum { RECORD = MOFULEKA_RECORD_BYTES };
+
+static uint8_t image[MOFULEKA_IMAGE_BYTES + 8];
+static uint8_t offset[MOFULEKA_OFFSET_TABLE_BYTES + 8], alpha[MOFULEKA_ALPHA_TABLE_BYTES + 8];
+static uint8_t k_ta[MOFULEKA_K_TA_TABLE_BYTES + 8], record[RECORD + 8];
+static uint8_t gathering[MOFULEKA_GATHERING_BYTES + 8], other[MOFULEKA_GATHERING_BYTES + 8];
 
 static void set(unsigned address, unsigned word) {
   image[2 * (address - 0x2400)] = (uint8_t)(word >> 8);
@@ -43,7 +46,7 @@ static int nothing_written(void) {
 }
 
 static mofuleka_answer decode(size_t len) {
-  return mofuleka_from_data(image, len, offset, 1536, alpha, 3072, k_ta, 3072, record, 122);
+  return mofuleka_from_data(image, len, offset, 1536, alpha, 3072, k_ta, 3072, record, RECORD);
 }
 
 static void sizes(void) {
@@ -62,11 +65,11 @@ static void decoding(void) {
   CHECK(mofuleka_number(decode(0)) == MOFULEKA_IMAGE_LENGTH);
   CHECK(mofuleka_number(decode(1663)) == MOFULEKA_IMAGE_LENGTH);
   CHECK(nothing_written());
-  a = mofuleka_from_data(image, 1664, offset, 1535, alpha, 3072, k_ta, 3072, record, 122);
+  a = mofuleka_from_data(image, 1664, offset, 1535, alpha, 3072, k_ta, 3072, record, RECORD);
   CHECK(mofuleka_number(a) == MOFULEKA_SHORT_SLICE && nothing_written());
-  a = mofuleka_from_data(image, 1664, offset, 1536, alpha, 3071, k_ta, 3072, record, 122);
+  a = mofuleka_from_data(image, 1664, offset, 1536, alpha, 3071, k_ta, 3072, record, RECORD);
   CHECK(mofuleka_number(a) == MOFULEKA_SHORT_SLICE && nothing_written());
-  a = mofuleka_from_data(image, 1664, offset, 1536, alpha, 3072, k_ta, 0, record, 122);
+  a = mofuleka_from_data(image, 1664, offset, 1536, alpha, 3072, k_ta, 0, record, RECORD);
   CHECK(mofuleka_number(a) == MOFULEKA_SHORT_SLICE && nothing_written());
   a = mofuleka_from_data(image, 1664, offset, 1536, alpha, 3072, k_ta, 3072, record, 121);
   CHECK(mofuleka_number(a) == MOFULEKA_SHORT_SLICE && nothing_written());
@@ -86,7 +89,7 @@ static void decoding(void) {
                          sizeof record);
   CHECK(a == MOFULEKA_ACCEPTED && !mofuleka_refused(a));
   CHECK(kept(offset, 1536, sizeof offset) && kept(alpha, 3072, sizeof alpha));
-  CHECK(kept(k_ta, 3072, sizeof k_ta) && kept(record, 122, sizeof record));
+  CHECK(kept(k_ta, 3072, sizeof k_ta) && kept(record, RECORD, sizeof record));
   CHECK(mofuleka_read_i16(record) == -3168 && mofuleka_read_i16(record + 2) == -13056);
   CHECK(mofuleka_read_i16(offset) == -55 && mofuleka_read_i16(offset + 1534) == -55);
   CHECK(mofuleka_read_f32(alpha) == 8192.0f / 137438953472.0f);
@@ -95,24 +98,24 @@ static void decoding(void) {
   CHECK(record[89] == 1 && mofuleka_read_f32(record + 90) == -4.0f);
 
   /* Questions over the record. */
-  CHECK(mofuleka_value_f32(mofuleka_k_v_pixel(record, 122, 33)) == 4.0f);
-  CHECK(mofuleka_number(mofuleka_k_v_pixel(record, 122, 768)) == MOFULEKA_PAST_THE_END);
+  CHECK(mofuleka_value_f32(mofuleka_k_v_pixel(record, RECORD, 33)) == 4.0f);
+  CHECK(mofuleka_number(mofuleka_k_v_pixel(record, RECORD, 768)) == MOFULEKA_PAST_THE_END);
   CHECK(mofuleka_number(mofuleka_k_v_pixel(record, 121, 0)) == MOFULEKA_SHORT_SLICE);
-  a = mofuleka_interleave_correction_pixel(record, 122, MOFULEKA_INTERLEAVE, 3);
+  a = mofuleka_interleave_correction_pixel(record, RECORD, MOFULEKA_INTERLEAVE, 3);
   CHECK(mofuleka_present(a) && mofuleka_value_f32(a) == -0.625f);
-  a = mofuleka_interleave_correction_pixel(record, 122, MOFULEKA_CHESS, 3);
+  a = mofuleka_interleave_correction_pixel(record, RECORD, MOFULEKA_CHESS, 3);
   CHECK(!mofuleka_refused(a) && !mofuleka_present(a));
   CHECK(mofuleka_number(mofuleka_interleave_correction_pixel(record, 0, 2, 768)) == MOFULEKA_PATTERN_OR_SUBPAGE);
   CHECK(mofuleka_number(mofuleka_interleave_correction_pixel(record, 0, 1, 768)) == MOFULEKA_PAST_THE_END);
   CHECK(mofuleka_number(mofuleka_interleave_correction_pixel(record, 0, 1, 767)) == MOFULEKA_SHORT_SLICE);
-  a = mofuleka_interleave_correction_cp(record, 122, MOFULEKA_INTERLEAVE, MOFULEKA_ONE);
+  a = mofuleka_interleave_correction_cp(record, RECORD, MOFULEKA_INTERLEAVE, MOFULEKA_ONE);
   CHECK(mofuleka_present(a) && mofuleka_value_f32(a) == 0.0625f);
-  CHECK(!mofuleka_present(mofuleka_interleave_correction_cp(record, 122, MOFULEKA_INTERLEAVE, MOFULEKA_ZERO)));
-  CHECK(mofuleka_number(mofuleka_interleave_correction_cp(record, 122, 0, 2)) == MOFULEKA_PATTERN_OR_SUBPAGE);
-  CHECK(mofuleka_value_f32(mofuleka_alpha_cp(record, 122, MOFULEKA_ZERO)) == 70.0f / 17179869184.0f);
-  CHECK(mofuleka_number(mofuleka_alpha_cp(record, 122, 2)) == MOFULEKA_PATTERN_OR_SUBPAGE);
-  CHECK(mofuleka_value_i16(mofuleka_offset_reference_cp(record, 122, MOFULEKA_ZERO)) == -75);
-  CHECK(mofuleka_value_i16(mofuleka_offset_reference_cp(record, 122, MOFULEKA_ONE)) == -77);
+  CHECK(!mofuleka_present(mofuleka_interleave_correction_cp(record, RECORD, MOFULEKA_INTERLEAVE, MOFULEKA_ZERO)));
+  CHECK(mofuleka_number(mofuleka_interleave_correction_cp(record, RECORD, 0, 2)) == MOFULEKA_PATTERN_OR_SUBPAGE);
+  CHECK(mofuleka_value_f32(mofuleka_alpha_cp(record, RECORD, MOFULEKA_ZERO)) == 70.0f / 17179869184.0f);
+  CHECK(mofuleka_number(mofuleka_alpha_cp(record, RECORD, 2)) == MOFULEKA_PATTERN_OR_SUBPAGE);
+  CHECK(mofuleka_value_i16(mofuleka_offset_reference_cp(record, RECORD, MOFULEKA_ZERO)) == -75);
+  CHECK(mofuleka_value_i16(mofuleka_offset_reference_cp(record, RECORD, MOFULEKA_ONE)) == -77);
   CHECK(mofuleka_number(mofuleka_offset_reference_cp(record, 121, MOFULEKA_ONE)) == MOFULEKA_SHORT_SLICE);
 
   /* A refused image: number, table, place, and nothing written. */
@@ -190,15 +193,15 @@ static void gatherings(void) {
     block[4] = (uint8_t)first;
     CHECK(mofuleka_gathering_accept(other, 2496, block, sizeof block) == MOFULEKA_ACCEPTED);
   }
-  a = mofuleka_gathering_from_data(other, 2496, offset, 1536, alpha, 3072, k_ta, 3072, record, 122);
+  a = mofuleka_gathering_from_data(other, 2496, offset, 1536, alpha, 3072, k_ta, 3072, record, RECORD);
   CHECK(a == MOFULEKA_ACCEPTED && mofuleka_read_i16(record + 2) == -16384);
-  a = mofuleka_gathering_from_data(other, 2496, offset, 1536, alpha, 3072, k_ta, 3071, record, 122);
+  a = mofuleka_gathering_from_data(other, 2496, offset, 1536, alpha, 3072, k_ta, 3071, record, RECORD);
   CHECK(mofuleka_number(a) == MOFULEKA_SHORT_SLICE);
   CHECK(mofuleka_number(mofuleka_gathering_merge(other, 2496, gathering, 2495)) == MOFULEKA_SHORT_SLICE);
   CHECK(mofuleka_gathering_merge(other, 2496, gathering, 2496) == MOFULEKA_ACCEPTED);
   a = mofuleka_gathering_status(other, 2496);
   CHECK(mofuleka_status_missing(a) == 0 && mofuleka_status_in_conflict(a) == 1);
-  a = mofuleka_gathering_from_data(other, 2496, offset, 1536, alpha, 3072, k_ta, 3072, record, 122);
+  a = mofuleka_gathering_from_data(other, 2496, offset, 1536, alpha, 3072, k_ta, 3072, record, RECORD);
   CHECK(mofuleka_number(a) == MOFULEKA_WORD_IN_CONFLICT && mofuleka_place(a) == 831);
 }
 
