@@ -22,6 +22,9 @@ earlier-accepted a b e = go (acceptedBy a) refl
     go true h = h
     go false h = ap acceptedBy (sym (ap (λ (t : Bool). cond t b a) h)) ∙ e
 
+pub later-accepted : (a b : Refusal) → acceptedBy (orElse a b) ≡ true → acceptedBy b ≡ true
+later-accepted a b e = ap acceptedBy (sym (or-passed a b (earlier-accepted a b e))) ∙ e
+
 or-assoc-by : (a b c : Refusal) (d : Bool) → acceptedBy a ≡ d → orElse a (orElse b c) ≡ orElse (orElse a b) c
 or-assoc-by a b c true p = rw p
 or-assoc-by a b c false p = rw p (rw p)
