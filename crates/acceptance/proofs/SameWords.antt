@@ -61,8 +61,8 @@ pub record SameHeld (g k : Gathering) : Type 0 where
 
 pub held-words : (g k : Gathering) → SameHeld g k → SameWords (bytesOf (g .values)) (bytesOf (k .values))
 held-words g k s = record {
-  long-a = omega (arith, length-bytes (g .values), s .size-g);
-  long-b = omega (arith, length-bytes (k .values), s .size-k);
+  whole-a = omega (arith, length-bytes (g .values), s .size-g);
+  whole-b = omega (arith, length-bytes (k .values), s .size-k);
   same = λ n l h. word-of-bytes (g .values) n ∙ (s .same n l h ∙ sym (word-of-bytes (k .values) n));
 }
 

@@ -1,5 +1,5 @@
--- The readings that the scope marks P, in one table: what is asked, and what the answer must be. Addresses are 0x2400 plus the word's number.
--- An image is its 1,664 bytes, and is decoded into three tables of 768 zeros. An answer begins with the refusal's number, table and place; the numbers asked for
+-- The readings that the scope marks P, and 1,665 bytes by request i, in one table: what is asked, and what the answer must be. Addresses are 0x2400 plus the word's number.
+-- An image is its bytes, and is decoded into three tables of 768 zeros. An answer begins with the refusal's number, table and place; the numbers asked for
 -- follow, f32s as their 32 bits.
 -- Assumes nothing.
 use Prim.Native.Nat.{ℕ, _+_, _-_}
@@ -117,6 +117,7 @@ unfoldable pub readings : List Row
 readings =
     (zeros 1663 ⇒ pos 1 ∷ pos 0 ∷ pos 0 ∷ [])
     ∷ (zeros 1664 ⇒ none)
+    ∷ (zeros 1665 ⇒ pos 1 ∷ pos 0 ∷ pos 0 ∷ [])
     ∷ (image ((0x2433 ≔ 0x9D68) ∷ []) supply ⇒ none ++ (negsuc 3167 ∷ negsuc 13055 ∷ []))
     ∷ (image ((0x2410 ≔ 0x0F00) ∷ (0x2412 ≔ 0x000F) ∷ []) offset-row-0 ⇒ none ++ replicate 32 (negsuc 32767))
     ∷ (image ((0x2410 ≔ 0x0F00) ∷ (0x2412 ≔ 0x0001) ∷ []) refusal ⇒ pos 3 ∷ pos 0 ∷ pos 0 ∷ [])

@@ -1,4 +1,4 @@
-// The decoder itself behind a C name, for the benchmark alone: the tables in the machine's own order, as the library writes them, and the record's bytes.
+// The decoder itself behind a C name, for the benchmark alone: it takes no page, and the tables are in the machine's own order, as the library writes them.
 use eeprom::from_data;
 use layout::RECORD_BYTES;
 use layout::put_record;

@@ -5,8 +5,8 @@ use mathlib.Core.Path.{_≡_, ap, _∙_}
 use mathlib.Core.Bool.{Bool, true, false, cond}
 use mathlib.Core.List.{List}
 use Prim.Native.Nat.{ℕ}
-use borrow.Author.Tests.{le-ltb}
-use lib.Dec.{ltb}
+use borrow.Author.Tests.{le-ltb, eq-eqb}
+use lib.Dec.{eqb}
 use lib.Ieee.{Float}
 use lib.IntN.{ℤ}
 use lib.ListN.{length}
@@ -37,12 +37,12 @@ pub record SameAnswer (image : List ℕ) (l m n : ℕ) : Type 0 where
 module _ (image : List ℕ) (l m n : ℕ) where
   -- what was accepted had passed the old walk
   passed : runningRefusal image l m n ≡ None → firstOutside (runningWalk (imageWords image)) ≡ None
-  passed = go (ltb (length image) 1664) (tablesShort l m n)
+  passed = go (eqb (length image) 1664) (tablesShort l m n)
     where
-      go : (a b : Bool) {r : Refusal} → cond a ImageLength (cond b ShortSlice r) ≡ None → r ≡ None
-      go true b e = cc
-      go false true e = cc
-      go false false e = e
+      go : (a b : Bool) {r : Refusal} → cond a (cond b ShortSlice r) ImageLength ≡ None → r ≡ None
+      go false b e = cc
+      go true true e = cc
+      go true false e = e
 
   pub same-answer : runningRefusal image l m n ≡ None → SameAnswer image l m n
   unfolding refusalOf decodedOf
@@ -61,5 +61,5 @@ module _ (image : List ℕ) (l m n : ℕ) where
   once-refused-with-4 e =
       let k = accepted-exactly image l m n .0 e in
       let room = k .0 in
-      rw (le-ltb (length image) 1664 (room .whole), le-ltb l 768 (room .offset), le-ltb m 768 (room .alpha), le-ltb n 768 (room .kta))
+      rw (eq-eqb (length image) 1664 (room .whole), le-ltb l 768 (room .offset), le-ltb m 768 (room .alpha), le-ltb n 768 (room .kta))
       (refused-with-4 (imageWords image) (inside-accepted (walk (imageWords image)) (k .1)))

@@ -2,12 +2,12 @@
 -- Assumes nothing.
 use mathlib.Core.Path.{_≡_, refl, sym, _∙_}
 use mathlib.Core.Logic.{_↔_, _⊎_, inl, inr, ⊎-elim}
-use mathlib.Core.Bool.{Bool, true, false}
+use mathlib.Core.Bool.{Bool, true, false, cond}
 use mathlib.Core.List.{List}
 use Prim.Native.Nat.{ℕ, _≤_, _<_}
 use native.Mathlib.Omega.{arith}
-use borrow.Author.Tests.{ltb-true, ltb-false}
-use lib.Dec.{ltb}
+use borrow.Author.Tests.{ltb-true, ltb-false, eqb-true, eqb-false, ne-eqb}
+use lib.Dec.{eqb, ltb}
 use lib.ListN.{length}
 use Rattle.refusal.specs.declared.Table.{Table}
 use Rattle.refusal.specs.declared.Refusal.{Refusal}
@@ -16,11 +16,11 @@ use Rattle.steps.specs.Steps.{firstOutside, AllInside, FirstIs, Step, refusalIn
 use Rattle.walk.specs.Walk.{walk}
 use Rattle.steps.proofs.Meaning.{accepted-inside, inside-accepted, first-refused, refused-first}
 use Rattle.eeprom.specs.Image.{imageWords}
-use Rattle.eeprom.specs.Decoding.{refusalOf}
+use Rattle.eeprom.specs.Decoding.{decoderRefusal, tablesShort, refusalOf}
 
--- the image is long enough, and so are the tables
+-- the image has its 1,664 bytes, and the tables are long enough
 pub record Room (image : List ℕ) (l m n : ℕ) : Type 0 where
-  pub whole : 1664 ≤ length image
+  pub whole : length image ≡ 1664
   pub offset : 768 ≤ l
   pub alpha : 768 ≤ m
   pub kta : 768 ≤ n
@@ -30,8 +30,8 @@ abbrev Narrow : ℕ → ℕ → ℕ → Type 0
 Narrow l m n = (l < 768) ⊎ ((m < 768) ⊎ (n < 768))
 
 -- the walk refuses by 3 or 4 and by nothing else
-no-short : (xs : List Step) → firstOutside xs ≡ ImageLength → ⊥
-no-short xs e = go (refused-first xs ImageLength e (λ d. let z : _≡_ {A = ℕ} 0 1 = cc in omega arith))
+no-length : (xs : List Step) → firstOutside xs ≡ ImageLength → ⊥
+no-length xs e = go (refused-first xs ImageLength e (λ d. let z : _≡_ {A = ℕ} 0 1 = cc in omega arith))
   where
     never : (s : Step) → refusalIn s ≡ ImageLength → ⊥
     never (term t p z) e = let z : _≡_ {A = ℕ} 0 1 = cc in omega arith
@@ -50,54 +50,54 @@ no-narrow xs e = go (refused-first xs ShortSlice e (λ d. let z : _≡_ {A = ℕ
     go : FirstIs xs ShortSlice → ⊥
     go f = never (f .step) (f .refuses)
 
+-- refusal 1 for every length but 1,664, whatever is lent
+pub length-refused : (image : List ℕ) (short : Bool) → (decoderRefusal image short ≡ ImageLength) ↔ (length image ≡ 1664 → ⊥)
+length-refused image short = (λ e. to (eqb (length image) 1664) short refl e, λ n. rw (ne-eqb (length image) 1664 n))
+  where
+    to : (a b : Bool) → eqb (length image) 1664 ≡ a → cond a (cond b ShortSlice (firstOutside (walk (imageWords image)))) ImageLength ≡ ImageLength → length image ≡ 1664 → ⊥
+    to false b t e = eqb-false (length image) 1664 t
+    to true true t e = absurd (let z : _≡_ {A = ℕ} 0 1 = cc in omega arith)
+    to true false t e = absurd (no-length (walk (imageWords image)) e)
+
 module _ (image : List ℕ) (l m n : ℕ) where
   abbrev steps : List Step
   steps = walk (imageWords image)
 
   -- the three ways that a call goes
   data Way : Type 0 where
-    short : length image < 1664 → refusalOf image l m n ≡ ImageLength → Way
-    narrow : 1664 ≤ length image → Narrow l m n → refusalOf image l m n ≡ ShortSlice → Way
+    misfit : (length image ≡ 1664 → ⊥) → refusalOf image l m n ≡ ImageLength → Way
+    narrow : length image ≡ 1664 → Narrow l m n → refusalOf image l m n ≡ ShortSlice → Way
     walked : Room image l m n → refusalOf image l m n ≡ firstOutside steps → Way
 
   way : Way
   unfolding refusalOf
-  way = go (ltb (length image) 1664) (ltb l 768) (ltb m 768) (ltb n 768) refl refl refl refl
+  way = go (eqb (length image) 1664) (ltb l 768) (ltb m 768) (ltb n 768) refl refl refl refl
     where
-      go : (a b c d : Bool) → ltb (length image) 1664 ≡ a → ltb l 768 ≡ b → ltb m 768 ≡ c → ltb n 768 ≡ d → Way
-      go true b c d ea eb ec ed = short (ltb-true (length image) 1664 ea) (rw ea)
-      go false true c d ea eb ec ed = narrow (ltb-false (length image) 1664 ea) (inl (ltb-true l 768 eb)) (rw (ea, eb))
-      go false false true d ea eb ec ed = narrow (ltb-false (length image) 1664 ea) (inr (inl (ltb-true m 768 ec))) (rw (ea, eb, ec))
-      go false false false true ea eb ec ed = narrow (ltb-false (length image) 1664 ea) (inr (inr (ltb-true n 768 ed))) (rw (ea, eb, ec, ed))
-      go false false false false ea eb ec ed =
-          walked (record { whole = ltb-false (length image) 1664 ea; offset = ltb-false l 768 eb; alpha = ltb-false m 768 ec; kta = ltb-false n 768 ed }) (rw (ea, eb, ec, ed))
+      go : (a b c d : Bool) → eqb (length image) 1664 ≡ a → ltb l 768 ≡ b → ltb m 768 ≡ c → ltb n 768 ≡ d → Way
+      go false b c d ea eb ec ed = misfit (eqb-false (length image) 1664 ea) (rw ea)
+      go true true c d ea eb ec ed = narrow (eqb-true (length image) 1664 ea) (inl (ltb-true l 768 eb)) (rw (ea, eb))
+      go true false true d ea eb ec ed = narrow (eqb-true (length image) 1664 ea) (inr (inl (ltb-true m 768 ec))) (rw (ea, eb, ec))
+      go true false false true ea eb ec ed = narrow (eqb-true (length image) 1664 ea) (inr (inr (ltb-true n 768 ed))) (rw (ea, eb, ec, ed))
+      go true false false false ea eb ec ed =
+          walked (record { whole = eqb-true (length image) 1664 ea; offset = ltb-false l 768 eb; alpha = ltb-false m 768 ec; kta = ltb-false n 768 ed }) (rw (ea, eb, ec, ed))
 
-  pub refusal-1 : (refusalOf image l m n ≡ ImageLength) ↔ (length image < 1664)
-  refusal-1 = (λ e. to way e, from way)
-    where
-      to : Way → refusalOf image l m n ≡ ImageLength → length image < 1664
-      to (short h d) e = h
-      to (narrow h t d) e = absurd (let z : _≡_ {A = ℕ} 0 1 = cc in omega arith)
-      to (walked r d) e = absurd (no-short steps (sym d ∙ e))
+  pub refusal-1 : (refusalOf image l m n ≡ ImageLength) ↔ (length image ≡ 1664 → ⊥)
+  unfolding refusalOf
+  refusal-1 = length-refused image (tablesShort l m n)
 
-      from : Way → length image < 1664 → refusalOf image l m n ≡ ImageLength
-      from (short h d) k = d
-      from (narrow h t d) k = absurd (omega arith)
-      from (walked r d) k = absurd (omega arith)
-
-  pub refusal-2 : (refusalOf image l m n ≡ ShortSlice) ↔ ((1664 ≤ length image) × Narrow l m n)
+  pub refusal-2 : (refusalOf image l m n ≡ ShortSlice) ↔ ((length image ≡ 1664) × Narrow l m n)
   refusal-2 = (λ e. to way e, from way)
     where
-      to : Way → refusalOf image l m n ≡ ShortSlice → (1664 ≤ length image) × Narrow l m n
-      to (short h d) e = absurd (let z : _≡_ {A = ℕ} 0 1 = cc in omega arith)
+      to : Way → refusalOf image l m n ≡ ShortSlice → (length image ≡ 1664) × Narrow l m n
+      to (misfit h d) e = absurd (let z : _≡_ {A = ℕ} 0 1 = cc in omega arith)
       to (narrow h t d) e = (h, t)
       to (walked r d) e = absurd (no-narrow steps (sym d ∙ e))
 
       roomy : Room image l m n → Narrow l m n → ⊥
       roomy r t = ⊎-elim (λ (k : l < 768). omega (arith, r .offset)) (⊎-elim (λ (k : m < 768). omega (arith, r .alpha)) (λ (k : n < 768). omega (arith, r .kta))) t
 
-      from : Way → (1664 ≤ length image) × Narrow l m n → refusalOf image l m n ≡ ShortSlice
-      from (short h d) k = absurd (omega (arith, k .0))
+      from : Way → (length image ≡ 1664) × Narrow l m n → refusalOf image l m n ≡ ShortSlice
+      from (misfit h d) k = absurd (h (k .0))
       from (narrow h t d) k = d
       from (walked r d) k = absurd (roomy r (k .1))
 
@@ -106,12 +106,12 @@ module _ (image : List ℕ) (l m n : ℕ) where
   walk-decides r a b = (λ e. to way e, λ k. from way k)
     where
       to : Way → refusalOf image l m n ≡ r → Room image l m n × (firstOutside steps ≡ r)
-      to (short h d) e = absurd (a (sym e ∙ d))
+      to (misfit h d) e = absurd (a (sym e ∙ d))
       to (narrow h t d) e = absurd (b (sym e ∙ d))
       to (walked q d) e = (q, sym d ∙ e)
 
       from : Way → Room image l m n × (firstOutside steps ≡ r) → refusalOf image l m n ≡ r
-      from (short h d) k = absurd (omega (arith, k .0 .whole))
+      from (misfit h d) k = absurd (h (k .0 .whole))
       from (narrow h t d) k = absurd (⊎-elim (λ (x : l < 768). omega (arith, k .0 .offset)) (⊎-elim (λ (x : m < 768). omega (arith, k .0 .alpha)) (λ (x : n < 768). omega (arith, k .0 .kta))) t)
       from (walked q d) k = d ∙ k .1
 

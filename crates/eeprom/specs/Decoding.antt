@@ -4,7 +4,7 @@
 use Prim.Native.Nat.{ℕ}
 use mathlib.Core.Bool.{Bool, cond, _||_}
 use mathlib.Core.List.{List}
-use lib.Dec.{ltb}
+use lib.Dec.{eqb, ltb}
 use lib.ListN.{length}
 use Rattle.refusal.specs.Code.{acceptedBy}
 use Rattle.refusal.specs.declared.Refusal.{Refusal}
@@ -16,9 +16,9 @@ use Rattle.util.specs.Lists.{written}
 use Rattle.eeprom.specs.Image.{imageWords}
 use Rattle.eeprom.specs.declared.Decoded.{Decoded}
 
--- the order of the refusals, whatever is lent: 1 for the image's length, 2 where a lent slice is too short, then what is found in the image
+-- the order of the refusals, whatever is lent: 1 for every length of the image but 1,664, 2 where a lent slice is too short, then what is found in the image
 abbrev pub inOrder : List ℕ → Bool → Refusal → Refusal
-inOrder image short found = cond (ltb (length image) 1664) ImageLength (cond short ShortSlice found)
+inOrder image short found = cond (eqb (length image) 1664) (cond short ShortSlice found) ImageLength
 
 -- what the walk finds is 3 or 4
 abbrev pub decoderRefusal : List ℕ → Bool → Refusal

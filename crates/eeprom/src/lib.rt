@@ -1,4 +1,4 @@
-// The decoder, after the crate's eeprom.rs: an image's bytes into a record and three lent tables, or a refusal.
+// The decoder, after the crate's eeprom.rs: an image's 1,664 bytes into a record and three lent tables, or a refusal.
 use record::Record;
 use record::blank_record;
 use record::read_record;
@@ -99,7 +99,7 @@ pub fn from_data(image: &[u8], offset: &mut [i16], alpha: &mut [f32], k_ta: &mut
     ensures alpha { λ r. ⌜ now (alpha .exit) ≡ tableAfter (r .refusal) (alphaAt (imageWords (now (image .entry)))) (now (alpha .entry)) ⌝ }
     ensures k_ta { λ r. ⌜ now («k_ta» .exit) ≡ tableAfter (r .refusal) (ktaAt (imageWords (now (image .entry)))) (now («k_ta» .entry)) ⌝ }
 {
-    if image.len() < 1664 {
+    if image.len() != 1664 {
         return refused(Refusal::ImageLength);
     }
     if offset.len() < 768 {
