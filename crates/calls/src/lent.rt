@@ -1,6 +1,7 @@
 // The memory that is lent to the calls, and the rows that set it up.
 ghost use Prim.Native.Nat.{_≤_};
 use mofuleka::mofuleka_from_data;
+use script::front;
 use script::image_of;
 use script::letter;
 use script::number;
@@ -28,7 +29,13 @@ fn record_of(image: [u8; 2496]) -> [u8; 122] {
     let mut alpha = [0u8; 3072];
     let mut k_ta = [0u8; 3072];
     let mut record = [0u8; 122];
-    mofuleka_from_data(&image, &mut offset, &mut alpha, &mut k_ta, &mut record);
+    mofuleka_from_data(
+        front(&image, 1664),
+        &mut offset,
+        &mut alpha,
+        &mut k_ta,
+        &mut record,
+    );
     record
 }
 
@@ -61,6 +68,12 @@ impl Lent {
         next.image = image;
         next.length = length;
         next
+    }
+
+    // The same image with so many bytes.
+    fn with_length(self, length: usize) -> Self {
+        let image = self.image;
+        self.with_image(image, length)
     }
 
     // Another gathering.
@@ -126,6 +139,7 @@ impl Lent {
         match letter(row, 0) {
             b'w' => self.with_image(image_of(row), 1664),
             b'f' => self.with_image([0; 2496], a as usize),
+            b'l' => self.with_length(a as usize),
             b'R' => self.with_record(),
             b'g' => self.with_gathering([(a % 256) as u8; 2496], b),
             b'h' => self.with_all_words(),

@@ -96,7 +96,8 @@ fn whole_way_inside() -> Vec<(Image, usize)> {
         of(&[(0x2420, 0x000A), (0x2421, 0x8000), (0x273F, 0x0200)]),
         (images::lifelike(1), 1664),
         (images::lifelike(2), 1664),
-        (images::lifelike(3), 1700),
+        // A page, which stands for its first 1,664 bytes.
+        (images::lifelike(3), 2048),
         accepted(images::tame, 1),
         accepted(images::tame, 100),
         accepted(images::near, 1),
@@ -163,11 +164,13 @@ const WORKED_EXAMPLE: [(usize, u16); 15] = [
     (0x25AF, 0x08A0),
 ];
 
-/// Images that are refused for one fault: too short, then each step of the walk in turn, of offset, alpha and Kta. A sum of
-/// offset is brought outside by the row, by the column, and by the remainder.
+/// Lengths that no image and no page has.
+const OTHER_LENGTHS: [usize; 11] = [0, 1, 830, 831, 1000, 1663, 1665, 1700, 2047, 2049, 3328];
+
+/// Images that are refused for one fault: of another length, then each step of the walk in turn, of offset, alpha and Kta. A sum
+/// of offset is brought outside by the row, by the column, and by the remainder.
 fn refused() -> Vec<(Image, usize)> {
-    let mut all: Vec<(Image, usize)> =
-        [0, 1, 830, 831, 1000, 1663].iter().map(|len| (images::lifelike(1), *len)).collect();
+    let mut all: Vec<(Image, usize)> = OTHER_LENGTHS.iter().map(|len| (images::lifelike(1), *len)).collect();
     all.extend(vec![
         of(&[(0x2410, 0x0F00), (0x2412, 0x0001)]),
         of(&[(0x2410, 0x0F00), (0x2412, 0x0002)]),
@@ -183,8 +186,10 @@ fn refused() -> Vec<(Image, usize)> {
         of(&[(0x2436, 0xFF00), (0x2438, 0x000D), (0x2442, 0x0008)]),
         // A term outside 16 bits that the average brings back inside.
         of(&[(0x2436, 0xFF00), (0x2438, 0x000F), (0x2440, 0x0002)]),
-        // Too short, with a fault as well: it is too short.
+        // Too short or too long, with a fault as well: the length comes first. And with a fault in a page.
         (images::with(&[(0x2410, 0x0F00), (0x2412, 0x0001)]), 1663),
+        (images::with(&[(0x2410, 0x0F00), (0x2412, 0x0001)]), 1665),
+        (images::with(&[(0x2410, 0x0F00), (0x2412, 0x0001)]), 2048),
     ]);
     all
 }
