@@ -7,6 +7,9 @@
  * not even where the length is 0, and a slice that a function writes overlaps no other slice of the same call.
  * Numbers in slices are big-endian. A call that is refused writes nothing.
  *
+ * An image has exactly 1,664 bytes. Older head firmware sends it at the front of a page of 2,048: an image's slice of
+ * exactly that length stands for its first 1,664 bytes, whatever follows there. Every other length is refused.
+ *
  * Patterns: 0 Interleave, 1 Chess. Subpages: 0 Zero, 1 One. Pixels: 0..767, row by row, 32 to a row.
  */
 #ifndef MOFULEKA_H
@@ -39,7 +42,7 @@ typedef uint64_t mofuleka_answer;
 
 /* The refusals by name. */
 #define MOFULEKA_ACCEPTED 0u
-#define MOFULEKA_IMAGE_LENGTH 1u        /* the image is too short */
+#define MOFULEKA_IMAGE_LENGTH 1u        /* the image has neither 1,664 bytes nor, as a page, 2,048 */
 #define MOFULEKA_SHORT_SLICE 2u         /* a slice is too short for what goes into it */
 #define MOFULEKA_TERM_OUTSIDE 3u        /* a scaled term is outside 16 bits; table and pixel given */
 #define MOFULEKA_SUM_OUTSIDE 4u         /* the final sum is outside 16 bits; table and pixel given */
@@ -161,7 +164,7 @@ size_t mofuleka_gathering_bytes(void);
 
 /* ---- decoding ---- */
 
-/* Decodes an image into the three tables and the record. Refusals: 1, 2, then 3 and 4. */
+/* Decodes an image, or a page of one, into the three tables and the record. Refusals: 1, 2, then 3 and 4. */
 mofuleka_answer mofuleka_from_data(const uint8_t *image, size_t image_len, uint8_t *offset, size_t offset_len,
                                    uint8_t *alpha, size_t alpha_len, uint8_t *k_ta, size_t k_ta_len, uint8_t *record,
                                    size_t record_len);

@@ -16,7 +16,8 @@ static void check(int good, const char *what, int line) {
 
 enum { RECORD = MOFULEKA_RECORD_BYTES };
 
-static uint8_t image[MOFULEKA_IMAGE_BYTES + 8];
+/* An image, and behind it as much as another one has. */
+static uint8_t image[2 * MOFULEKA_IMAGE_BYTES];
 static uint8_t offset[MOFULEKA_OFFSET_TABLE_BYTES + 8], alpha[MOFULEKA_ALPHA_TABLE_BYTES + 8];
 static uint8_t k_ta[MOFULEKA_K_TA_TABLE_BYTES + 8], record[RECORD + 8];
 static uint8_t gathering[MOFULEKA_GATHERING_BYTES + 8], other[MOFULEKA_GATHERING_BYTES + 8];
@@ -64,6 +65,10 @@ static void decoding(void) {
   fill();
   CHECK(mofuleka_number(decode(0)) == MOFULEKA_IMAGE_LENGTH);
   CHECK(mofuleka_number(decode(1663)) == MOFULEKA_IMAGE_LENGTH);
+  CHECK(mofuleka_number(decode(1665)) == MOFULEKA_IMAGE_LENGTH);
+  CHECK(mofuleka_number(decode(2047)) == MOFULEKA_IMAGE_LENGTH);
+  CHECK(mofuleka_number(decode(2049)) == MOFULEKA_IMAGE_LENGTH);
+  CHECK(mofuleka_number(decode(3328)) == MOFULEKA_IMAGE_LENGTH);
   CHECK(nothing_written());
   a = mofuleka_from_data(image, 1664, offset, 1535, alpha, 3072, k_ta, 3072, record, RECORD);
   CHECK(mofuleka_number(a) == MOFULEKA_SHORT_SLICE && nothing_written());
@@ -74,7 +79,7 @@ static void decoding(void) {
   a = mofuleka_from_data(image, 1664, offset, 1536, alpha, 3072, k_ta, 3072, record, 121);
   CHECK(mofuleka_number(a) == MOFULEKA_SHORT_SLICE && nothing_written());
 
-  /* Over-long slices: their ends keep their content. */
+  /* A page, whose tail is not looked at; over-long slices, whose ends keep their content. */
   set(0x2433, 0x9D68);
   set(0x2435, 0x0841);
   set(0x2434, 0x1234);
@@ -85,7 +90,8 @@ static void decoding(void) {
   set(0x2420, 0x7000);
   set(0x2421, 0x2000);
   set(0x2436, 0x0500);
-  a = mofuleka_from_data(image, sizeof image, offset, sizeof offset, alpha, sizeof alpha, k_ta, sizeof k_ta, record,
+  memset(image + MOFULEKA_IMAGE_BYTES, 0xEE, MOFULEKA_IMAGE_BYTES);
+  a = mofuleka_from_data(image, 2048, offset, sizeof offset, alpha, sizeof alpha, k_ta, sizeof k_ta, record,
                          sizeof record);
   CHECK(a == MOFULEKA_ACCEPTED && !mofuleka_refused(a));
   CHECK(kept(offset, 1536, sizeof offset) && kept(alpha, 3072, sizeof alpha));

@@ -98,12 +98,12 @@ fn table_f32(bytes: &[u8; F32 * PIXELS]) -> [f32; PIXELS] {
 }
 
 impl Calibration {
-    /// Decodes an EEPROM image: 832 big-endian words, first address 0x2400. A longer slice is accepted, and its bytes from
-    /// 1,664 on are ignored.
+    /// Decodes an EEPROM image: 832 big-endian words, first address 0x2400. Of a page, a slice of exactly 2,048 bytes as older
+    /// head firmware sends it, the first 1,664 are the image.
     ///
     /// # Errors
-    /// `ImageLength` for a short image; `TermOutside` and `SumOutside` where a term, or the final sum of an offset or of Kta,
-    /// leaves 16 bits.
+    /// `ImageLength` for every other length, two images joined among them; `TermOutside` and `SumOutside` where a term, or the
+    /// final sum of an offset or of Kta, leaves 16 bits.
     pub fn from_data(image: &[u8]) -> Result<Self, Refusal> {
         Self::filled(|l| lent::from_data(image, &mut l.offset, &mut l.alpha, &mut l.k_ta, &mut l.record))
     }

@@ -1,9 +1,10 @@
 //! The C interface on slices: every byte is lent by the caller, nothing is allocated or copied here.
 //!
 //! Tables, records and gatherings are big-endian bytes, laid out in `docs/INTERFACE.md`; [`place`](crate::place) has the
-//! record's places. A refused call writes nothing; bytes of a slice past its layout keep their content. Patterns and
-//! subpages are numbers here (0 Interleave, 1 Chess; 0 Zero, 1 One), so that every refusal of the interface can be met.
-//! Refusals are named as in [`Reason`](crate::Reason), in the order in which they are looked for.
+//! record's places. A refused call writes nothing; bytes of a slice past its layout keep their content. An image and a block
+//! have none past theirs: another length is refused. Patterns and subpages are numbers here (0 Interleave, 1 Chess; 0 Zero,
+//! 1 One), so that every refusal of the interface can be met. Refusals are named as in [`Reason`](crate::Reason), in the order
+//! in which they are looked for.
 //!
 //! ```
 //! use mofuleka::{lent, place, Reason};
@@ -83,10 +84,10 @@ pub fn sizes() -> [usize; 6] {
     }
 }
 
-/// Decodes an image into three tables and a record.
+/// Decodes an image, or a page of 2,048 bytes that begins with one, into three tables and a record.
 ///
 /// # Errors
-/// `ImageLength`, `ShortSlice` for one of the four written slices, then `TermOutside` and `SumOutside`.
+/// `ImageLength`, for every other length; `ShortSlice` for one of the four written slices, then `TermOutside` and `SumOutside`.
 pub fn from_data(
     image: &[u8],
     offset: &mut [u8],

@@ -15,8 +15,12 @@
 //!     Err(refusal) => eprintln!("{refusal}"),
 //! }
 //!
-//! let refusal = Calibration::from_data(&image[1..]).unwrap_err();
-//! assert_eq!(refusal.to_string(), "the image is shorter than 1664 bytes (refusal 1)");
+//! // A page stands for its image, whatever follows there; any other length is refused.
+//! let mut page = [0xFFu8; 2048];
+//! page[..lent::IMAGE_BYTES].copy_from_slice(&image);
+//! assert_eq!(Calibration::from_data(&page), Calibration::from_data(&image));
+//! let refusal = Calibration::from_data(&page[..2047]).unwrap_err();
+//! assert_eq!(refusal.to_string(), "the image has neither 1664 bytes nor a page's 2048 (refusal 1)");
 //! ```
 //!
 //! # Where the archive comes from

@@ -75,8 +75,8 @@ macro_rules! reasons {
 
 // Each refusal once: its name and number, what its place counts, its sentence.
 reasons! {
-    /// the image has fewer than 1,664 bytes.
-    ImageLength = 1, Nothing, "the image is shorter than 1664 bytes";
+    /// the image has neither 1,664 bytes nor, as a page, 2,048.
+    ImageLength = 1, Nothing, "the image has neither 1664 bytes nor a page's 2048";
     /// a lent slice is too short for what goes into it.
     ShortSlice = 2, Nothing, "a slice is too short for what goes into it";
     /// a scaled term is outside 16 bits; table and pixel are given.

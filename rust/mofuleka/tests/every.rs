@@ -376,7 +376,6 @@ fn words_that_are_not_read() {
     let mut changed = image(&[(0x2433, 0x9D68)]);
     let plain = Calibration::from_data(&changed).unwrap();
     changed[..32].iter_mut().for_each(|byte| *byte = 0xA5);
-    changed.extend_from_slice(&[0xFF; 500]);
     let other = Calibration::from_data(&changed).unwrap();
     assert_eq!(plain, other);
     assert_eq!(plain, plain.clone());
@@ -414,7 +413,7 @@ fn lent_slices() {
             assert!(slices.iter().all(|slice| slice.iter().all(|byte| *byte == 0x5A)));
         }
     }
-    // Over-long slices keep the bytes past their layout; a short image comes before a short slice.
+    // Over-long slices keep the bytes past their layout; the refusal of an image's length comes before that of a short slice.
     let mut long: Vec<Vec<u8>> = FULL.iter().map(|len| vec![0x5A; len + 9]).collect();
     let (a, b) = long.split_at_mut(2);
     let (offset, alpha) = a.split_at_mut(1);
@@ -435,6 +434,25 @@ fn lent_slices() {
     let refusal = lent::from_data(&bad, &mut offset[0], &mut alpha[0], &mut k_ta[0], &mut record[0]).unwrap_err();
     assert_eq!(parts(refusal), (4, 0, 160));
     assert_eq!(long, before);
+}
+
+/// Every length but an image's and a page's is refused, and a page is what its first 1,664 bytes are, whatever follows there.
+#[test]
+fn lengths_of_images() {
+    let head = image(&[(0x2430, 0x18EF), (0x2411, 0x1234)]);
+    let whole = Calibration::from_data(&head).unwrap();
+    for tail in [0x00, 0xFF] {
+        let mut long = head.to_vec();
+        long.resize(2 * IMAGE_BYTES, tail);
+        for len in 0..=long.len() {
+            let answer = Calibration::from_data(&long[..len]).map_err(parts);
+            let expected = if [IMAGE_BYTES, 2048].contains(&len) { Ok(&whole) } else { Err((1, 0, 0)) };
+            assert_eq!(answer.as_ref().map_err(|refusal| *refusal), expected, "{len} bytes");
+        }
+    }
+    // Two heads' dumps joined by mistake are no image.
+    let joined = [head, image(&[])].concat();
+    assert_eq!(Calibration::from_data(&joined).unwrap_err().reason(), Reason::ImageLength);
 }
 
 #[test]
@@ -787,7 +805,7 @@ fn names_of_the_original_crate() {
 #[test]
 fn refusals_are_errors() {
     let error: Box<dyn std::error::Error> = Box::new(Calibration::from_data(&[]).unwrap_err());
-    assert_eq!(error.to_string(), "the image is shorter than 1664 bytes (refusal 1)");
+    assert_eq!(error.to_string(), "the image has neither 1664 bytes nor a page's 2048 (refusal 1)");
 }
 
 #[test]
