@@ -25,6 +25,9 @@
 #include "mofuleka.h"
 
 #define IMAGE_BYTES 1664u
+/* A page that stands for its first IMAGE_BYTES, and two images joined. */
+#define PAGE_BYTES 2048u
+#define JOINED_BYTES 3328u
 #define OFFSET_BYTES 1536u
 #define FLOATS_BYTES 3072u
 #define RECORD_BYTES 122u
@@ -417,9 +420,15 @@ static int short_tables(const struct call *c) {
   return c->len[1] < OFFSET_BYTES || c->len[2] < FLOATS_BYTES || c->len[3] < FLOATS_BYTES || c->len[4] < RECORD_BYTES;
 }
 
+/* Accepted pages. */
+static uint64_t pages;
+
 static mofuleka_answer answer_from_data(const struct call *c) {
-  if (c->len[0] < IMAGE_BYTES) return plain(MOFULEKA_IMAGE_LENGTH);
-  return short_tables(c) ? plain(MOFULEKA_SHORT_SLICE) : walk(content[0]);
+  mofuleka_answer a;
+  if (c->len[0] != IMAGE_BYTES && c->len[0] != PAGE_BYTES) return plain(MOFULEKA_IMAGE_LENGTH);
+  a = short_tables(c) ? plain(MOFULEKA_SHORT_SLICE) : walk(content[0]);
+  pages += c->len[0] == PAGE_BYTES && a == MOFULEKA_ACCEPTED;
+  return a;
 }
 
 /* A word of a gathering: what its mark and value count as. */
@@ -1110,6 +1119,20 @@ static size_t odd_length(size_t layout) {
   }
 }
 
+/* An image's: mostly its own or a page's; else any, those beside these two and that of two images joined among them. */
+static size_t image_length(void) {
+  static const size_t beside[] = {IMAGE_BYTES - 1, IMAGE_BYTES + 1, PAGE_BYTES - 1, PAGE_BYTES + 1, JOINED_BYTES};
+  switch (below(16)) {
+    case 0: return beside[below(5)];
+    case 1: return below(2101);
+    case 2: return odd_length(IMAGE_BYTES);
+    case 3:
+    case 4:
+    case 5: return PAGE_BYTES;
+    default: return IMAGE_BYTES;
+  }
+}
+
 static size_t block_length(void) {
   switch (below(16)) {
     case 0: return below(150);
@@ -1131,6 +1154,8 @@ static void choose_lengths(struct call *c) {
     size_t layout = f->slices[i].layout;
     if (f->slices[i].what == A_BLOCK)
       c->len[i] = block_length();
+    else if (f->slices[i].what == AN_IMAGE)
+      c->len[i] = image_length();
     else if (way == 0 || (way == 1 && i == odd % f->slice_count))
       c->len[i] = odd_length(layout);
     else
@@ -1165,11 +1190,18 @@ static struct {
   uint64_t completed;
 } sweep;
 
+/* The last length of a slice that is gone through: of an image that of two images joined, behind all up to 2100. */
+static size_t last_length(const struct slice *s) { return s->what == AN_IMAGE ? 2101 : s->layout + 16; }
+
+static size_t swept_length(const struct slice *s, size_t value) {
+  return s->what == AN_IMAGE && value == last_length(s) ? JOINED_BYTES : value;
+}
+
 static void advance_sweep(void) {
   const struct function *f = &functions[sweep.function];
   size_t past = 16;
   if (sweep.part < f->slice_count)
-    past += f->slices[sweep.part].layout;
+    past = last_length(&f->slices[sweep.part]);
   else if (sweep.part < f->slice_count + f->number_count)
     past += number_limits[f->numbers[sweep.part - f->slice_count]];
   else
@@ -1195,7 +1227,7 @@ static void choose_by_sweep(struct call *c) {
   for (i = 0; i < f->slice_count; i++) c->len[i] = f->slices[i].layout;
   for (i = 0; i < f->number_count; i++) c->number[i] = below(number_limits[f->numbers[i]]);
   if (sweep.part < f->slice_count)
-    c->len[sweep.part] = sweep.value;
+    c->len[sweep.part] = swept_length(&f->slices[sweep.part], sweep.value);
   else if (sweep.part < f->slice_count + f->number_count)
     c->number[sweep.part - f->slice_count] = sweep.value;
   advance_sweep();
@@ -1266,8 +1298,9 @@ static int tell_table(double seconds) {
   printf("%llu steps; every length and small number gone through %llu times\n", (unsigned long long)step,
          (unsigned long long)sweep.completed);
   printf("%llu accepted images with an offset that left 16 bits and came back\n", (unsigned long long)returning);
-  seen = seen && returning > 0;
-  if (!seen) printf("wrong: a function was not called, a slice of one not placed both ways, or no offset came back\n");
+  printf("%llu accepted pages\n", (unsigned long long)pages);
+  seen = seen && returning > 0 && pages > 0;
+  if (!seen) printf("wrong: no call of a function, a slice not placed both ways, no offset that came back, or no page\n");
   printf("%llu calls in %.0f seconds, 0 faults, %d wrong\n", (unsigned long long)calls, seconds, !seen);
   return !seen;
 }

@@ -290,7 +290,7 @@ impl Timed<'_> {
         self.case("decode, refused at the first pixel", &mut |_| l.decode(&images.first));
         self.case("decode, refused at the last offset", &mut |_| l.decode(&images.last));
         self.case("decode, refused at the last Kta", &mut |_| l.decode(&images.k_ta));
-        self.case("decode, refused as short", &mut |_| l.decode(&lifelike[..1663]));
+        self.case("decode, refused for its length", &mut |_| l.decode(&lifelike[..1663]));
         self.case("Calibration::from_data, lifelike", &mut |_| {
             Calibration::from_data(lifelike).map(|c| c.k_v_dd() as u64).unwrap_or(0)
         });

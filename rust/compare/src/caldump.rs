@@ -1,8 +1,11 @@
 //! The program caldump on a sample of images: the listing that the original crate's answers give.
 use std::env;
-use std::io::Write;
-use std::path::PathBuf;
-use std::process::{Command, Stdio};
+use std::fs::{self, File};
+use std::io::{self, Write};
+use std::path::{Path, PathBuf};
+use std::process::{ChildStdin, Command, Stdio};
+use std::thread;
+use std::time::Duration;
 
 use compare::images::{self, Numbers};
 use compare::judge::{Judge, Release};
@@ -50,38 +53,75 @@ fn listing(image: &[u8]) -> String {
     lines.iter().map(|(name, values)| format!("{} {}\n", name, values)).collect()
 }
 
-fn answer(program: &PathBuf, image: &[u8]) -> Result<String, String> {
-    let mut child = Command::new(program)
-        .stdin(Stdio::piped())
-        .stdout(Stdio::piped())
-        .stderr(Stdio::null())
-        .spawn()
-        .map_err(|error| error.to_string())?;
-    let mut stdin = child.stdin.take().expect("piped");
-    // A program that has read enough may close its end first.
-    let _ = stdin.write_all(image);
-    drop(stdin);
-    let output = child.wait_with_output().map_err(|error| error.to_string())?;
-    String::from_utf8(output.stdout).map_err(|error| error.to_string())
+/// How the program is given its input.
+#[derive(Clone, Copy, Debug)]
+enum Source {
+    File,
+    Pipe,
+    Pieces,
 }
 
-/// Images of every kind: accepted ones, refused ones, one that is too long.
-fn sample(seed: u64) -> Vec<Vec<u8>> {
+/// Writes into a pipe, in pieces of so many bytes with time to read each. A program that has read enough closes its end first.
+fn write(mut stdin: ChildStdin, input: &[u8], piece: usize) {
+    for bytes in input.chunks(piece) {
+        if stdin.write_all(bytes).is_err() {
+            return;
+        }
+        if bytes.len() < input.len() {
+            thread::sleep(Duration::from_micros(300));
+        }
+    }
+}
+
+fn ask(program: &Path, input: &[u8], source: Source) -> io::Result<String> {
+    let mut command = Command::new(program);
+    command.stdout(Stdio::piped()).stderr(Stdio::null());
+    let path = env::temp_dir().join(format!("mofuleka-caldump-{}", std::process::id()));
+    match source {
+        Source::File => {
+            fs::write(&path, input)?;
+            command.stdin(File::open(&path)?);
+        }
+        Source::Pipe | Source::Pieces => {
+            command.stdin(Stdio::piped());
+        }
+    }
+    let mut child = command.spawn()?;
+    if let Some(stdin) = child.stdin.take() {
+        let piece = if let Source::Pieces = source { 97 } else { input.len().max(1) };
+        write(stdin, input, piece);
+    }
+    let output = child.wait_with_output()?;
+    if let Source::File = source {
+        fs::remove_file(&path)?;
+    }
+    String::from_utf8(output.stdout).map_err(|error| io::Error::new(io::ErrorKind::InvalidData, error))
+}
+
+/// Inputs whose length decides, and how each is given: beside an image's length and a page's, two images joined, and far more.
+fn lengths() -> Vec<(Vec<u8>, Source)> {
+    let far = 10 << 20;
+    let mut all = Vec::new();
+    for len in [0, 1, 831, 1663, 1664, 1665, 2047, 2048, 2049, 2050, 3328, far] {
+        for source in [Source::File, Source::Pipe, Source::Pieces] {
+            let mut input = [images::lifelike(2), images::lifelike(3)].concat();
+            input.resize(len, 0x5A);
+            all.push((input, source));
+        }
+    }
+    all
+}
+
+/// Images of every kind: accepted ones and refused ones.
+fn sample(seed: u64) -> Vec<(Vec<u8>, Source)> {
     let mut numbers = Numbers::new(seed ^ 0xCA1D);
     let mut sample: Vec<Vec<u8>> = vec![
         vec![0; 1664],
-        vec![],
-        vec![0; 1],
-        vec![0; 831],
-        vec![0; 1663],
         vec![0xFF; 1664],
         images::with(&[(0x2410, 0x0F00), (0x2412, 0x0001)]).to_vec(),
         images::with(&[(0x2411, 0x7FFF), (0x2413, 0x0010)]).to_vec(),
         images::with(&[(0x243C, 0x0080)]).to_vec(),
     ];
-    let mut long = images::lifelike(2).to_vec();
-    long.extend((0..5000).map(|_| numbers.word() as u8));
-    sample.push(long);
     for i in 0..30 {
         sample.push(images::lifelike(i).to_vec());
         sample.push(images::tame(&mut numbers).to_vec());
@@ -90,7 +130,7 @@ fn sample(seed: u64) -> Vec<Vec<u8>> {
         sample.push(leaving::leaving(&mut numbers).to_vec());
         sample.push(images::damaged(&mut numbers));
     }
-    sample
+    sample.into_iter().map(|image| (image, Source::Pipe)).chain(lengths()).collect()
 }
 
 pub fn run(tally: &mut Tally, seed: u64) {
@@ -102,7 +142,7 @@ pub fn run(tally: &mut Tally, seed: u64) {
         }
     };
     tally.part("through caldump");
-    for (i, image) in sample(seed).iter().enumerate() {
+    for (i, (image, source)) in sample(seed).iter().enumerate() {
         tally.image(image);
         let expected = listing(image);
         let held = match expected.starts_with("refused") {
@@ -112,12 +152,14 @@ pub fn run(tally: &mut Tally, seed: u64) {
                 Held::Crate
             }
         };
-        match answer(&program, image) {
+        match ask(&program, image, *source) {
             Ok(ours) if ours == expected => {
                 let numbers = expected.split_whitespace().count() - expected.lines().count();
                 tally.equal(held, numbers as u64);
             }
-            ours => tally.different(held, || format!("image {}: {:?}, must be {:?}", i, ours, expected)),
+            ours => tally.different(held, || {
+                format!("image {}, {} bytes, {:?}: {:?}, must be {:?}", i, image.len(), source, ours, expected)
+            }),
         }
     }
 }

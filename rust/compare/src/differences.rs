@@ -135,6 +135,7 @@ trait Fields {
     fn correction(&self, pixel: usize) -> String;
     fn alpha_cp(&self) -> String;
     fn alpha_ptat(&self) -> String;
+    fn gain(&self) -> String;
     fn gradient(&self) -> String;
     fn alpha_correction(&self) -> String;
 }
@@ -179,6 +180,10 @@ impl<J: Judge> Fields for J {
 
     fn alpha_ptat(&self) -> String {
         number(float_at(&self.record(), place::ALPHA_PTAT).into())
+    }
+
+    fn gain(&self) -> String {
+        number(float_at(&self.record(), place::GAIN).into())
     }
 
     fn gradient(&self) -> String {
@@ -249,6 +254,27 @@ fn length(len: usize) -> Row {
         ours: ours(Calibration::from_data(&image), |_| "accepted".to_string()),
         bytes: Some(image),
     }
+}
+
+/// Two heads' images, one behind the other.
+fn joined() -> Row {
+    let (first, second) = ([(0x2430, 0x18EF)], [(0x2430, 0x1234)]);
+    let both = [images::with(&first), images::with(&second)].concat();
+    Row {
+        image: format!("{}, and behind its 1664 bytes a second image, {}", words(&first), words(&second)),
+        asked: "gain".to_string(),
+        release: said(Release::decode(&both), |answer| Fields::gain(&answer)),
+        checked: said(Checked::decode(&both), |answer| Fields::gain(&answer)),
+        datasheet: "832 words".to_string(),
+        ours: ours(Calibration::from_data(&both), |answer| number(answer.gain().into())),
+        bytes: Some(both),
+    }
+}
+
+/// Images of another length than 1,664 bytes, a page among them.
+fn lengths() -> Vec<Row> {
+    let lengths = [0, 1, 830, 831, 832, 1663, 1664, 1665, 2047, 2048, 2049, 3328];
+    lengths.iter().map(|len| length(*len)).chain([joined()]).collect()
 }
 
 fn resolution(calibrated: u8, current: u8, datasheet: &str) -> Row {
@@ -465,13 +491,12 @@ fn alpha_correction() -> Row {
 
 /// The sections of the file that have a table, and their rows.
 fn entries() -> Vec<(&'static str, Vec<Row>)> {
-    let lengths = [0, 1, 830, 831, 832, 1663, 1664, 1665];
     let alpha_ptats = [(0x1000, 8.25), (0x5000, 9.25), (0xF000, 11.75), (0x4000, 9.0)];
     let resolutions = [(15, 0), (16, 0), (0, 16), (128, 0), (128, 1)];
     let corrected = [0, 1, 2, 3, 32, 33];
     let k_vs = [(0, 1.0), (1, 3.0), (32, 2.0), (33, 4.0)];
     vec![
-        ("1. Short images, and the test for 831 bytes", lengths.iter().map(|len| length(*len)).collect()),
+        ("1. Images of another length than 1,664 bytes", lengths()),
         ("2. Terms outside 16 bits", terms()),
         ("3. Sums outside 16 bits", sums()),
         ("4. Alpha_PTAT in whole steps", alpha_ptats.iter().map(|(word, must)| alpha_ptat(*word, *must)).collect()),

@@ -6,6 +6,7 @@
 pub const WORDS: usize = 832;
 pub const PIXELS: usize = 768;
 pub const IMAGE: usize = 1664;
+pub const PAGE: usize = 2048;
 
 #[derive(Clone, Copy, Debug, Eq, PartialEq)]
 pub struct Refused {
@@ -119,7 +120,7 @@ fn k_ta(image: &[u8]) -> Table {
 }
 
 /// What each pixel of a table adds up, in the order of the pixels: its average, its row term, its column term and its
-/// remainder term. The image has at least 1,664 bytes.
+/// remainder term. The image is one, or a page.
 pub fn parts(image: &[u8], table: usize) -> impl Iterator<Item = [i64; 4]> + '_ {
     let t = match table {
         OFFSET => laid_out(image, 0x2410, (15, 10)),
@@ -133,7 +134,7 @@ pub fn parts(image: &[u8], table: usize) -> impl Iterator<Item = [i64; 4]> + '_ 
 }
 
 /// The numerators of the three tables, or the first failure of the walk: in each pixel first all terms, then, but for alpha,
-/// the sum. The image has at least 1,664 bytes.
+/// the sum. The image is one, or a page.
 pub fn walk(image: &[u8]) -> Result<[[i64; PIXELS]; 3], Refused> {
     let mut tables = [[0; PIXELS]; 3];
     for table in [OFFSET, ALPHA, K_TA] {
@@ -152,12 +153,13 @@ pub fn walk(image: &[u8]) -> Result<[[i64; PIXELS]; 3], Refused> {
     Ok(tables)
 }
 
-/// What an image of any length gets, the lent slices being long enough.
-pub fn verdict(image: &[u8]) -> Result<[[i64; PIXELS]; 3], Refused> {
-    if image.len() < IMAGE {
-        return Err(refused(1));
+/// What an input of any length gets, the lent slices being long enough: an image has 1,664 bytes, and a page of exactly 2,048
+/// stands for its first 1,664.
+pub fn verdict(input: &[u8]) -> Result<[[i64; PIXELS]; 3], Refused> {
+    match input.len() {
+        IMAGE | PAGE => walk(input),
+        _ => Err(refused(1)),
     }
-    walk(image)
 }
 
 struct Writer {
@@ -181,7 +183,7 @@ impl Writer {
     }
 }
 
-/// The record of an image of at least 1,664 bytes.
+/// The record of an image, or of a page.
 pub fn record(image: &[u8]) -> [u8; 122] {
     let w = |address| word(image, address);
     let mut r = Writer { record: [0; 122], at: 0 };

@@ -3,6 +3,7 @@ use compare::gatherings;
 use compare::guarded::{Bench, Depth, FULL};
 use compare::images::{self, Image, Numbers};
 use compare::leaving;
+use compare::model;
 use compare::tally::{Held, Tally};
 
 use crate::questions;
@@ -38,6 +39,7 @@ pub fn jobs(plan: Plan) -> Vec<Job> {
     leaving(plan, &mut jobs);
     let seed = plan.seed;
     jobs.push(Box::new(move |tally, bench| lengths(tally, bench, seed)));
+    jobs.push(Box::new(move |tally, bench| pages(tally, bench, seed)));
     jobs.push(Box::new(move |tally, bench| unread(tally, bench, seed)));
     jobs.push(Box::new(questions::short_slices));
     jobs.push(Box::new(move |tally, _| questions::over_records(tally, seed)));
@@ -149,11 +151,14 @@ fn leaving(plan: Plan, jobs: &mut Vec<Job>) {
     }
 }
 
-/// Images cut short, and images followed by anything.
+/// Two images, one behind the other.
+const JOINED: usize = 3328;
+
+/// Images cut short, and images followed by anything, up to the length of two images.
 fn lengths(tally: &mut Tally, bench: &mut Bench, seed: u64) {
-    tally.part("every length from 0 to 2100");
+    tally.part("every length from 0 to 2100, and 3328");
     let mut numbers = Numbers::new(seed);
-    for len in 0..=2100usize {
+    for len in (0..=2100usize).chain([JOINED]) {
         for base in 0..3 {
             let mut image: Vec<u8> = match base {
                 0 => vec![0; 1664],
@@ -169,21 +174,43 @@ fn lengths(tally: &mut Tally, bench: &mut Bench, seed: u64) {
     }
 }
 
+/// Two inputs that must get the same bytes in every slice, and everything that is compared of an image besides.
+fn alike(tally: &mut Tally, bench: &mut Bench, first: &[u8], second: &[u8], name: impl Fn() -> String) {
+    let depth = Depth { questions: true, cross: true };
+    bench.image(tally, first, depth, &name);
+    let before: Vec<Vec<u8>> = bench.slices.iter().map(|slice| slice.slice().to_vec()).collect();
+    bench.image(tally, second, depth, &name);
+    for ((before, now), full) in before.iter().zip(&bench.slices).zip(FULL) {
+        tally.same(Held::Rules, &name, &now.slice()[..full], &before[..full]);
+    }
+}
+
+/// A page gets the answers of the image at its front, whatever follows there; two images joined get none.
+fn pages(tally: &mut Tally, bench: &mut Bench, seed: u64) {
+    tally.part("images in pages, and joined");
+    let mut numbers = Numbers::new(seed);
+    for i in 0..500 {
+        let name = || format!("page {}", i);
+        let image = images::lifelike(i);
+        let joined = [&image[..], &images::lifelike(i + 1)].concat();
+        let mut page = joined[..model::PAGE].to_vec();
+        if i % 2 == 0 {
+            page[model::IMAGE..].iter_mut().for_each(|byte| *byte = numbers.word() as u8);
+        }
+        alike(tally, bench, &image, &page, name);
+        bench.image(tally, &joined, Depth { questions: true, cross: true }, &name);
+    }
+}
+
 /// Words 0..15, bit 0 of a pixel's word and the reserved bits change nothing.
 fn unread(tally: &mut Tally, bench: &mut Bench, seed: u64) {
     tally.part("words that are not read");
     let mut numbers = Numbers::new(seed);
-    let depth = Depth { questions: true, cross: true };
     for i in 0..500 {
-        let name = || format!("unread {}", i);
-        let mut image = images::lifelike(i);
-        bench.image(tally, &image, depth, &name);
-        let before: Vec<Vec<u8>> = bench.slices.iter().map(|slice| slice.slice().to_vec()).collect();
-        change_unread(&mut image, &mut numbers);
-        bench.image(tally, &image, depth, &name);
-        for ((before, now), full) in before.iter().zip(&bench.slices).zip(FULL) {
-            tally.same(Held::Rules, name, &now.slice()[..full], &before[..full]);
-        }
+        let image = images::lifelike(i);
+        let mut changed = image;
+        change_unread(&mut changed, &mut numbers);
+        alike(tally, bench, &image, &changed, || format!("unread {}", i));
     }
 }
 

@@ -12,16 +12,17 @@ pub fn short_slices(tally: &mut Tally, bench: &mut Bench) {
     tally.part("short slices");
     let good = images::lifelike(1);
     let bad = images::with(&[(0x2411, 0x7FFF), (0x2413, 0x0010)]);
+    let long = [&good[..], &[0]].concat();
     for (which, full) in FULL.iter().enumerate() {
         for len in (0..full + 3).filter(|len| len % 17 == 0 || len + 4 > *full) {
-            for image in [&good[..], &bad, &good[..1663]] {
+            for image in [&good[..], &bad, &good[..1663], &long] {
                 let mut lens = FULL;
                 lens[which] = len;
                 let ours = bench.lend(tally, lens, |offset, alpha, k_ta, record| {
                     lent::from_data(image, offset, alpha, k_ta, record)
                 });
                 let (held, expected) = match len {
-                    _ if image.len() < 1664 => (Held::Rules, Err(refused(1))),
+                    _ if image.len() != 1664 => (Held::Rules, Err(refused(1))),
                     _ if len < *full => (Held::Rules, Err(refused(2))),
                     _ => (Held::Walk, model::verdict(image).map(|_| ())),
                 };
