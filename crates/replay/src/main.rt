@@ -1,8 +1,10 @@
 // Holds the library to a fixed sample of the original crate's answers, which stands on standard input. Where a sum of alpha wraps in the crate, the sample has the
-// exact number in its place. rust/compare/src/sample.rs has the sample's form, and rust/compare/record-sample makes it.
+// exact number in its place. alpha_ptat is the crate's throughout, in whole steps, and is raised here to the datasheet's quarter steps, which the library has
+// (docs/DIFFERENCES.md, section 4). rust/compare/src/sample.rs has the sample's form, and rust/compare/record-sample makes it.
 use libc::STDIN_FILENO;
 use libc::STDOUT_FILENO;
 use mofuleka::mofuleka_from_data;
+use std::num::wrapping_add_u8;
 ghost use Prim.Native.Nat.{_≤_, _<_};
 
 // What became of one entry of the sample.
@@ -12,6 +14,8 @@ enum Outcome {
     // It breaks off in the middle of an entry.
     Broken,
     Accepted,
+    // Accepted as well, with an alpha_ptat that is some quarters above the crate's.
+    InQuarters,
     Refused,
     Different,
 }
@@ -54,10 +58,29 @@ fn as_recorded(got: &[u8]) -> bool {
     check::same(recorded, got)
 }
 
+// Whether the record is the next one of the sample, with its alpha_ptat raised by so many quarters. From 8 to 12 a quarter is 4 in the second byte of an f32.
+fn record_as_recorded(got: &[u8; 122], quarters: u8) -> bool {
+    let mut recorded = [0u8; 122];
+    if io::read_full(STDIN_FILENO, &mut recorded) < 122 {
+        return false;
+    }
+    recorded[18] = wrapping_add_u8(recorded[18], quarters % 4 * 4);
+    check::same(&recorded, got)
+}
+
 fn least(a: usize, b: usize) -> usize
     ensures { λ r. ⌜ r ≤ b ⌝ }
 {
     if a < b { a } else { b }
+}
+
+// What an accepted image counts as, by the quarters of its alpha_ptat.
+fn taken(quarters: u8) -> Outcome {
+    if quarters == 0 {
+        Outcome::Accepted
+    } else {
+        Outcome::InQuarters
+    }
 }
 
 // Decodes an image and compares: the answer word, and where the sample has an accepted image the record and the tables.
@@ -75,12 +98,13 @@ fn decoded_as(bytes: &[u8], length: usize, expected: u64) -> Outcome {
             Outcome::Different
         };
     }
-    let same_record = as_recorded(&record);
+    let quarters = util::byte(bytes, 32) / 16 % 4;
+    let same_record = record_as_recorded(&record, quarters);
     let same_offset = as_recorded(&offset);
     let same_alpha = as_recorded(&alpha);
     let same_k_ta = as_recorded(&k_ta);
     if answer == 0 && same_record && same_offset && same_alpha && same_k_ta {
-        Outcome::Accepted
+        taken(quarters)
     } else {
         Outcome::Different
     }
@@ -116,6 +140,7 @@ fn replay_entry() -> Outcome {
 // How many entries went which way so far, and whether the sample has come to its end.
 struct Tally {
     accepted: u64,
+    in_quarters: u64,
     refused: u64,
     different: u64,
     compared: u64,
@@ -142,6 +167,11 @@ fn counted(t: Tally, outcome: Outcome) -> Tally {
         }
         Outcome::Accepted => {
             next.accepted = more(t.accepted);
+            next.compared = more(t.compared);
+            next
+        }
+        Outcome::InQuarters => {
+            next.in_quarters = more(t.in_quarters);
             next.compared = more(t.compared);
             next
         }
@@ -174,6 +204,7 @@ fn say(count: u64, what: &[u8]) {
 fn main() {
     let mut tally = Tally {
         accepted: 0,
+        in_quarters: 0,
         refused: 0,
         different: 0,
         compared: 0,
@@ -185,6 +216,10 @@ fn main() {
         left = left_after(left, tally.ended);
     }
     say(tally.accepted, b" accepted with the recorded numbers\n");
+    say(
+        tally.in_quarters,
+        b" accepted with these, and alpha_ptat in quarter steps, where the crate has whole ones\n",
+    );
     say(tally.refused, b" refused as the scope has them\n");
     say(tally.compared, b" compared, ");
     say(tally.different, b" different\n");

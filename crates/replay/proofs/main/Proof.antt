@@ -5,10 +5,10 @@ use Rattle.replay.proofs.main.Statement.{statement}
 use Rattle.replay.proofs.main.Tie as tie
 
 abbrev Inv-loop : tie.InvT-loop
-Inv-loop tally₀ left₀ t3 t4 t5 t6 tally left = Unit {0}
+Inv-loop tally₀ left₀ t3 t4 t5 t6 t7 tally left = Unit {0}
 
 abbrev μ-loop : tie.MeasureT-loop
-μ-loop tally₀ left₀ t3 t4 t5 t6 tally left = left
+μ-loop tally₀ left₀ t3 t4 t5 t6 t7 tally left = left
 
 pub main-spec : {M : Type 1} → statement M
 main-spec =
@@ -22,6 +22,8 @@ main-spec =
     (λ c κs. search needs)
     (λ c. search needs)
     (λ c. search needs)
+    (λ c. search needs)
+    (λ c κs. search needs)
     (λ c. search needs)
     (λ c κs. search needs)
     (λ c. search needs)
