@@ -135,6 +135,7 @@ trait Fields {
     fn correction(&self, pixel: usize) -> String;
     fn alpha_cp(&self) -> String;
     fn alpha_ptat(&self) -> String;
+    fn ambient(&self) -> f64;
     fn gain(&self) -> String;
     fn gradient(&self) -> String;
     fn alpha_correction(&self) -> String;
@@ -142,6 +143,17 @@ trait Fields {
 
 fn float_at(record: &[u8; lent::RECORD_BYTES], at: usize) -> f32 {
     f32::from_be_bytes([record[at], record[at + 1], record[at + 2], record[at + 3]])
+}
+
+/// The ambient temperature by the formula of section 11.2.2, on the RAM words of the datasheet's worked example: V_DD 0xCCC5, V_PTAT
+/// 0x06AF and V_BE 0x4BF2, read with the resolution of the calibration.
+fn ambient(record: &[u8; lent::RECORD_BYTES]) -> f64 {
+    let [v_dd, v_ptat, v_be] = [0xCCC5u16, 0x06AF, 0x4BF2].map(|word| f64::from(word as i16));
+    let whole = |at: usize| f64::from(i16::from_be_bytes([record[at], record[at + 1]]));
+    let float = |at: usize| f64::from(float_at(record, at));
+    let delta_v = (v_dd - whole(place::V_DD_25)) / whole(place::K_V_DD);
+    let v_ptat_art = v_ptat / (v_ptat * float(place::ALPHA_PTAT) + v_be) * 262_144.0;
+    (v_ptat_art / (1.0 + float(place::K_V_PTAT) * delta_v) - float(place::V_PTAT_25)) / float(place::K_T_PTAT) + 25.0
 }
 
 impl<J: Judge> Fields for J {
@@ -180,6 +192,10 @@ impl<J: Judge> Fields for J {
 
     fn alpha_ptat(&self) -> String {
         number(float_at(&self.record(), place::ALPHA_PTAT).into())
+    }
+
+    fn ambient(&self) -> f64 {
+        ambient(&self.record())
     }
 
     fn gain(&self) -> String {
@@ -445,6 +461,32 @@ fn alpha_ptat(word: u16, datasheet: f64) -> Row {
     )
 }
 
+/// What the steps of alpha_ptat come to: the worked example's ambient temperature, with another nibble in its word at 0x2410.
+fn ambient_row(word: u16) -> Row {
+    let set = [(0x2410, word), (0x2431, 0x2FF1), (0x2432, 0x5952), (0x2433, 0x9D68)];
+    let image = images::with(&set);
+    let of_crate = Release::decode(&image).answer().expect("the original crate takes an accepted image").record();
+    let mut of_datasheet = of_crate;
+    let quarters = f32::from(word & 0xF000) / 16384.0 + 8.0;
+    of_datasheet[place::ALPHA_PTAT..][..4].copy_from_slice(&quarters.to_be_bytes());
+    let degrees = |ambient: f64| format!("{:.4}", ambient);
+    let moved = ambient(&of_datasheet) - ambient(&of_crate);
+    field(
+        &set,
+        &format!("ambient temperature in degrees; from whole to quarter steps it moves by {}", degrees(moved)),
+        |judge| degrees(judge.ambient()),
+        degrees(ambient(&of_datasheet)),
+        |c| degrees(ambient(c.record_bytes())),
+    )
+}
+
+/// The steps themselves, and what they come to.
+fn alpha_ptats() -> Vec<Row> {
+    let steps = [(0x1000, 8.25), (0x5000, 9.25), (0x6000, 9.5), (0x7000, 9.75), (0xF000, 11.75), (0x4000, 9.0)];
+    let rows = steps.iter().map(|(word, must)| alpha_ptat(*word, *must));
+    rows.chain([0x4210, 0x5210, 0x6210, 0x7210].iter().map(|word| ambient_row(*word))).collect()
+}
+
 fn alpha_cp() -> Row {
     field(
         &[(0x2439, 0x0200)],
@@ -491,7 +533,6 @@ fn alpha_correction() -> Row {
 
 /// The sections of the file that have a table, and their rows.
 fn entries() -> Vec<(&'static str, Vec<Row>)> {
-    let alpha_ptats = [(0x1000, 8.25), (0x5000, 9.25), (0xF000, 11.75), (0x4000, 9.0)];
     let resolutions = [(15, 0), (16, 0), (0, 16), (128, 0), (128, 1)];
     let corrected = [0, 1, 2, 3, 32, 33];
     let k_vs = [(0, 1.0), (1, 3.0), (32, 2.0), (33, 4.0)];
@@ -499,7 +540,7 @@ fn entries() -> Vec<(&'static str, Vec<Row>)> {
         ("1. Images of another length than 1,664 bytes", lengths()),
         ("2. Terms outside 16 bits", terms()),
         ("3. Sums outside 16 bits", sums()),
-        ("4. Alpha_PTAT in whole steps", alpha_ptats.iter().map(|(word, must)| alpha_ptat(*word, *must)).collect()),
+        ("4. Alpha_PTAT in quarter steps", alpha_ptats()),
         ("5. The sign of the alpha average", vec![alpha(&[(0x2421, 0x8000)], 0), alpha(&[(0x2421, 0xFFFF)], 0)]),
         ("6. The sign of alpha_CP_0", vec![alpha_cp()]),
         ("7. The gradient at zero", vec![gradient(&[], 0.0), gradient(&[(0x243C, 0x00FF)], -1.0 / 32.0)]),

@@ -3,12 +3,12 @@ use std::collections::BTreeSet;
 
 use mofuleka::{lent, Refusal};
 
+use crate::apart::Apart;
 use crate::guarded::{refused_of, Bench, Depth, Guarded, FULL};
 use crate::images::{self, Numbers};
 use crate::judge::{Judge, Release};
 use crate::leaving;
 use crate::model::{self, refused, Refused};
-use crate::sums;
 use crate::tally::{Held, Tally};
 
 /// A history: what each word was carried with.
@@ -303,7 +303,7 @@ fn decode(tally: &mut Tally, bench: &mut Bench, gathering: &Lent, history: &Hist
         tally.accepted();
         let judge = Release::decode(&image).answer().expect("the original crate takes an accepted image");
         let depth = Depth { questions: true, cross: false };
-        bench.compare(tally, Held::Crate, &judge, &sums::wrapped(&image), depth, name);
+        bench.compare(tally, Held::Crate, &judge, &Apart::of(&image), depth, name);
     }
     // Short tables come after 9 and 10, before 3 and 4.
     let short = [1535, 3072, 3072, 122];

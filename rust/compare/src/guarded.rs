@@ -1,6 +1,7 @@
 //! Calls into the library with guard bytes around every slice, and the comparison of one image.
 use mofuleka::{lent, place, Refusal, Table};
 
+use crate::apart::{Apart, ALPHA_PTAT};
 use crate::judge::{Checked, Judge, Outcome, Release};
 use crate::model::{self, Decoded, Refused};
 use crate::sums::{self, Wrapped};
@@ -82,20 +83,32 @@ fn field_of(at: usize) -> &'static str {
     FIELDS.iter().rev().find(|(_, start)| *start <= at).map(|(name, _)| *name).unwrap_or("")
 }
 
-/// Compares two records; one that differs counts as one number that differs.
+/// Compares two records, but for alpha_ptat where the crate has another; one that differs counts as one number that differs.
 fn compare_records(
     tally: &mut Tally,
     held: Held,
     ours: &[u8],
     expected: &[u8; lent::RECORD_BYTES],
+    apart: &Apart,
     name: &dyn Fn() -> String,
 ) {
-    let at = (0..lent::RECORD_BYTES).find(|at| ours[*at] != expected[*at]);
-    tally.count(held, RECORD_NUMBERS, u64::from(at.is_some()), || {
+    let quarters = apart.quarters.is_some();
+    let counts = |at: &usize| !(quarters && ALPHA_PTAT.contains(at));
+    let at = (0..lent::RECORD_BYTES).filter(counts).find(|at| ours[*at] != expected[*at]);
+    tally.count(held, RECORD_NUMBERS - u64::from(quarters), u64::from(at.is_some()), || {
         let at = at.unwrap_or(0);
         let (byte, must) = (ours[at], expected[at]);
         format!("{}: {}: record byte {} is {:02X}, must be {:02X}", name(), field_of(at), at, byte, must)
     });
+}
+
+/// Counts the nibble of alpha_ptat; where the crate has another number, compares with the datasheet's.
+fn compare_alpha_ptat(tally: &mut Tally, record: &[u8], apart: &Apart, name: &dyn Fn() -> String) {
+    tally.nibbles[apart.nibble] += 1;
+    if let Some(quarters) = &apart.quarters {
+        let (ours, expected) = (&record[ALPHA_PTAT], &quarters.exact.to_bits().to_be_bytes()[..]);
+        tally.same(Held::Datasheet, || format!("{}: alpha_ptat", name()), ours, expected);
+    }
 }
 
 /// The entries of a table of floats, as their bits.
@@ -204,21 +217,24 @@ impl Bench {
         answer
     }
 
-    /// Compares what was last decoded with one judge's record and tables, but for alpha in the pixels where its sum wraps.
+    /// Compares what was last decoded with one judge's record and tables; where the crate's numbers are others, with what must be.
     pub fn compare<J: Judge>(
         &mut self,
         tally: &mut Tally,
         held: Held,
         judge: &J,
-        wrapped: &[Wrapped],
+        apart: &Apart,
         depth: Depth,
         name: &dyn Fn() -> String,
     ) {
         let [offset, alpha, k_ta, record] = &self.slices;
-        compare_records(tally, held, record.slice(), &judge.record(), name);
+        compare_records(tally, held, record.slice(), &judge.record(), apart, name);
+        if held == Held::Crate {
+            compare_alpha_ptat(tally, record.slice(), apart, name);
+        }
         let ours = offset.slice()[..FULL[0]].chunks_exact(2).map(|b| i16::from_be_bytes([b[0], b[1]]));
         tally.list(held, |pixel| format!("{}: offset {}", name(), pixel), ours, judge.offset().iter().copied());
-        compare_alpha(tally, held, &alpha.slice()[..FULL[1]], judge.alpha(), wrapped, name);
+        compare_alpha(tally, held, &alpha.slice()[..FULL[1]], judge.alpha(), &apart.wrapped, name);
         let ours = bits(&k_ta.slice()[..FULL[2]]);
         tally.list(held, |pixel| format!("{}: Kta {}", name(), pixel), ours, bits_of(judge.k_ta()));
         if depth.questions {
@@ -275,6 +291,7 @@ impl Bench {
     /// An image that was decoded just now, and had to be accepted.
     fn accepted(&mut self, tally: &mut Tally, image: &[u8], depth: Depth, name: &dyn Fn() -> String) {
         tally.accepted();
+        let apart = Apart::of(image);
         let release = Release::decode(image);
         let overflows = sums::overflows(image);
         if overflows || depth.cross {
@@ -282,7 +299,7 @@ impl Bench {
             if overflows {
                 count_doings(&mut tally.overflows, &release, &checked);
             }
-            self.accepted_checked(tally, checked, overflows, depth, name);
+            self.accepted_checked(tally, checked, overflows, &apart, depth, name);
         }
         let release = match release.answer() {
             Some(release) => release,
@@ -291,12 +308,11 @@ impl Bench {
                 return;
             }
         };
-        let wrapped = sums::wrapped(image);
-        self.compare(tally, Held::Crate, &release, &wrapped, depth, name);
-        compare_wrapped(tally, &wrapped, release.alpha(), name);
+        self.compare(tally, Held::Crate, &release, &apart, depth, name);
+        compare_apart(tally, &apart, &release, name);
         if depth.cross {
             let model = model::decode(image).expect("accepted above");
-            compare_judges(tally, &model, &release, &wrapped, name);
+            compare_judges(tally, &model, &release, &apart, name);
         }
     }
 
@@ -307,40 +323,39 @@ impl Bench {
         tally: &mut Tally,
         checked: Outcome<Checked>,
         overflows: bool,
+        apart: &Apart,
         depth: Depth,
         name: &dyn Fn() -> String,
     ) {
         let panics = matches!(checked, Outcome::Panic(_));
         tally.same(Held::Judges, || format!("{}: panics with overflow checks", name()), panics, overflows);
         match checked.answer() {
-            Some(checked) => self.compare(tally, Held::Checked, &checked, &[], depth, name),
+            Some(checked) => self.compare(tally, Held::Checked, &checked, apart, depth, name),
             None if overflows => {}
             None => tally.different(Held::Checked, || format!("{}: no answer with overflow checks", name())),
         }
     }
 }
 
-/// Holds what the crate's release build has where alpha's sum wraps to what it must be.
-fn compare_wrapped(tally: &mut Tally, wrapped: &[Wrapped], of_crate: &[f32], name: &dyn Fn() -> String) {
-    let expected = wrapped.iter().map(|w| (w.pixel, w.of_crate.to_bits()));
-    let theirs = wrapped.iter().map(|w| (w.pixel, of_crate[w.pixel].to_bits()));
+/// Holds what the crate's release build has where its numbers are others to what it must be.
+fn compare_apart<J: Judge>(tally: &mut Tally, apart: &Apart, judge: &J, name: &dyn Fn() -> String) {
+    let expected = apart.wrapped.iter().map(|w| (w.pixel, w.of_crate.to_bits()));
+    let theirs = apart.wrapped.iter().map(|w| (w.pixel, judge.alpha()[w.pixel].to_bits()));
     tally.list(Held::Judges, |_| format!("{}: alpha of the crate, pixel and bits", name()), theirs, expected);
+    if let Some(quarters) = &apart.quarters {
+        let (theirs, expected) = (&judge.record()[ALPHA_PTAT], &quarters.of_crate.to_bits().to_be_bytes()[..]);
+        tally.same(Held::Judges, || format!("{}: alpha_ptat of the crate", name()), theirs, expected);
+    }
 }
 
 /// Holds the model's numbers to the original crate's, so that it can be believed where the crate has none.
-fn compare_judges<J: Judge>(
-    tally: &mut Tally,
-    model: &Decoded,
-    judge: &J,
-    wrapped: &[Wrapped],
-    name: &dyn Fn() -> String,
-) {
+fn compare_judges<J: Judge>(tally: &mut Tally, model: &Decoded, judge: &J, apart: &Apart, name: &dyn Fn() -> String) {
     let held = Held::Judges;
-    compare_records(tally, held, &model.record, &judge.record(), name);
+    compare_records(tally, held, &model.record, &judge.record(), apart, name);
     let (ours, expected) = (model.offset.iter(), judge.offset().iter());
     tally.list(held, |pixel| format!("{}: the model's offset {}", name(), pixel), ours, expected);
     let (ours, expected) = (bits_of(&model.alpha), bits_of(judge.alpha()));
-    let (ours, expected) = (entries(ours, wrapped, false), entries(expected, wrapped, false));
+    let (ours, expected) = (entries(ours, &apart.wrapped, false), entries(expected, &apart.wrapped, false));
     tally.list(held, |_| format!("{}: the model's alpha, pixel and bits", name()), ours, expected);
     let (ours, expected) = (bits_of(&model.k_ta), bits_of(judge.k_ta()));
     tally.list(held, |pixel| format!("{}: the model's Kta {}", name(), pixel), ours, expected);

@@ -1,4 +1,5 @@
 //! The judge's parts: the model of the rules, the original crate twice, the guarded calls into the library, the images, and the count.
+pub mod apart;
 pub mod gatherings;
 pub mod guarded;
 pub mod images;

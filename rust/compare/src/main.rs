@@ -13,7 +13,7 @@ use std::time::Instant;
 
 use compare::guarded::Bench;
 use compare::tally::{Held, Tally};
-use compare::{judge, report, sums};
+use compare::{apart, judge, report, sums};
 
 use crate::parts::{Job, Plan};
 
@@ -122,6 +122,7 @@ fn main() {
     differences::run(&mut tally, false);
     recorded::run(&mut tally);
     sums::require_all(&mut tally);
+    apart::require_nibbles(&mut tally);
     report::print(&tally);
     println!("{:.1} s", start.elapsed().as_secs_f64());
     println!("{}", report::last_line(&tally));

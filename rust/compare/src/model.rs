@@ -193,7 +193,7 @@ pub fn record(image: &[u8]) -> [u8; 122] {
     r.float(over(signed(w(0x2432), 15, 10), 12));
     r.float(over(signed(w(0x2432), 9, 0), 3));
     r.float(over(signed(w(0x2431), 15, 0), 0));
-    r.float(over(field(w(0x2410), 15, 12) / 4 + 8, 0));
+    r.float(over(32 + field(w(0x2410), 15, 12), 2));
     r.float(over(signed(w(0x2430), 15, 0), 0));
     r.float(over(signed(w(0x243C), 15, 8), 13));
     let step = 10 * field(w(0x243F), 13, 12);

@@ -34,6 +34,7 @@ impl Plan {
 pub fn jobs(plan: Plan) -> Vec<Job> {
     let mut jobs: Vec<Job> = Vec::new();
     every_word(plan, &mut jobs);
+    jobs.push(Box::new(nibbles));
     pixel_words(plan, &mut jobs);
     random(plan, &mut jobs);
     leaving(plan, &mut jobs);
@@ -68,6 +69,19 @@ fn every_word(plan: Plan, jobs: &mut Vec<Job>) {
                     bench.image(tally, &image, depth, &|| format!("{:#06X} = {:#06X}", address, value));
                 }
             }));
+        }
+    }
+}
+
+/// Each nibble of alpha_ptat, however few values of a word are tried.
+fn nibbles(tally: &mut Tally, bench: &mut Bench) {
+    tally.part("each nibble of alpha_ptat");
+    for (_, base) in EVERY_WORD {
+        for nibble in 0..16 {
+            let mut image = base();
+            let word = nibble << 12 | images::get(&image, 0x2410) & 0x0FFF;
+            images::set(&mut image, 0x2410, word);
+            bench.image(tally, &image, Depth { questions: false, cross: true }, &|| format!("0x2410 = {:#06X}", word));
         }
     }
 }

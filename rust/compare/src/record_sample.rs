@@ -5,10 +5,10 @@ use std::env;
 use std::fs;
 use std::process::exit;
 
+use compare::apart::Apart;
 use compare::judge;
 use compare::model;
 use compare::sample;
-use compare::sums;
 
 /// What must be recorded of images with two faults is written beside them; the model has to say the same.
 fn unexpected() -> Vec<String> {
@@ -21,6 +21,13 @@ fn unexpected() -> Vec<String> {
         }
     }
     wrong
+}
+
+/// What is recorded of an accepted image, and whether the library has another alpha_ptat.
+fn accepted(apart: &Apart) -> String {
+    let alpha = if apart.wrapped.is_empty() { "all of it the crate's" } else { "with some of the model's alpha" };
+    let steps = if apart.quarters.is_some() { ", in whole steps where the library has quarters" } else { "" };
+    format!("accepted, {}{}", alpha, steps)
 }
 
 fn main() {
@@ -40,8 +47,7 @@ fn main() {
     let mut verdicts = BTreeMap::new();
     for image in sample::images() {
         let key = match model::verdict(&image) {
-            Ok(_) if sums::wrapped(&image).is_empty() => "accepted, all of it the crate's".to_string(),
-            Ok(_) => "accepted, with some of the model's alpha".to_string(),
+            Ok(_) => accepted(&Apart::of(&image)),
             Err(refused) => format!("refusal {}, table {}", refused.number, refused.table),
         };
         *verdicts.entry(key).or_insert(0) += 1;

@@ -111,6 +111,20 @@ fn by_way(tally: &Tally) {
     }
 }
 
+/// Records and listings by the nibble of alpha_ptat, a line for each multiple of 4 and a column for what is above it.
+fn by_nibble(tally: &Tally) {
+    let line = |cells: [String; 5]| {
+        let [nibble, a, b, c, d] = cells;
+        println!("{:<46} {:>14} {:>14} {:>14} {:>14}", nibble, a, b, c, d);
+    };
+    println!("alpha_ptat by its nibble: held to the crate where that is a multiple of 4, and to the datasheet elsewhere; none of");
+    println!("these counts may be zero:");
+    line(["nibble", "crate", "1 more: sheet", "2 more: sheet", "3 more: sheet"].map(String::from));
+    for (fours, counts) in tally.nibbles.chunks_exact(4).enumerate() {
+        line([(4 * fours).to_string(), grouped(counts[0]), grouped(counts[1]), grouped(counts[2]), grouped(counts[3])]);
+    }
+}
+
 /// How many are different, and held to what.
 fn differences(tally: &Tally) -> String {
     let kinds: Vec<String> = Held::all()
@@ -137,6 +151,8 @@ pub fn print(tally: &Tally) {
     by_refusal(tally);
     println!();
     by_way(tally);
+    println!();
+    by_nibble(tally);
     print_shown(tally);
 }
 
@@ -148,11 +164,12 @@ pub fn last_line(tally: &Tally) -> String {
     };
     let compared = |held: &[Held]| grouped(tally.total(held).compared);
     format!(
-        "{} comparisons ({} with the crate, {} again with its overflow checks, {} with models) \
+        "{} comparisons ({} with the crate, {} again with its overflow checks, {} with the datasheet, {} with models) \
          and {} bytes that had to stay: {}; {}",
         compared(&Held::ANSWERS),
         compared(&[Held::Crate]),
         compared(&[Held::Checked]),
+        compared(&[Held::Datasheet]),
         compared(&Held::MODELS),
         compared(&[Held::Bytes]),
         differences(tally),

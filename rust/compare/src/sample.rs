@@ -22,7 +22,8 @@
 //!
 //! as docs/INTERFACE.md lays them out. What accepted images get is the original crate's answer, release build, but for alpha
 //! in the pixels where the crate's 16-bit sum wraps (`sums`): there it is the model's. Which images are refused, and how, is
-//! the model's, too.
+//! the model's, too. alpha_ptat is the crate's on every image, in whole steps; the library's has the nibble's quarters besides
+//! (`apart`), and whoever reads the sample adds them, as crates/replay does.
 use crate::images::{self, Image, Numbers};
 use crate::judge::{Judge, Release};
 use crate::leaving;

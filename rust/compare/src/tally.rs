@@ -11,6 +11,7 @@ use crate::sums::Way;
 pub enum Held {
     Crate,
     Checked,
+    Datasheet,
     Walk,
     Wide,
     Sets,
@@ -22,7 +23,8 @@ pub enum Held {
 
 impl Held {
     /// Comparisons of the library's answers, those with the original crate first.
-    pub const ANSWERS: [Held; 6] = [Held::Crate, Held::Checked, Held::Walk, Held::Wide, Held::Sets, Held::Rules];
+    pub const ANSWERS: [Held; 7] =
+        [Held::Crate, Held::Checked, Held::Datasheet, Held::Walk, Held::Wide, Held::Sets, Held::Rules];
     /// Comparisons with a model, where the original crate has no answer that counts.
     pub const MODELS: [Held; 4] = [Held::Walk, Held::Wide, Held::Sets, Held::Rules];
     /// Comparisons that are not about an answer of the library.
@@ -36,6 +38,7 @@ impl Held {
         match self {
             Held::Crate => "crate",
             Held::Checked => "checked",
+            Held::Datasheet => "sheet",
             Held::Walk => "walk",
             Held::Wide => "wide",
             Held::Sets => "sets",
@@ -50,6 +53,7 @@ impl Held {
         match self {
             Held::Crate => "the original crate, release build",
             Held::Checked => "the original crate once more, built with overflow checks",
+            Held::Datasheet => "the datasheet's formula: alpha_ptat, where the crate has whole steps",
             Held::Walk => "model in wide integers: an image is accepted, or its refusal, table and pixel",
             Held::Wide => "model in wide integers: alpha, where the crate's sum wraps",
             Held::Sets => "model of sets: words, marks, counts and refusals of gatherings",
@@ -77,7 +81,7 @@ impl Count {
 /// One part of the run: images of one kind, or questions of one kind.
 #[derive(Clone, Default)]
 pub struct Part {
-    counts: [Count; 9],
+    counts: [Count; 10],
     /// A hash of each image that was compared.
     images: Vec<u64>,
     pub accepted: u64,
@@ -139,6 +143,8 @@ pub struct Tally {
     pub overflows: Doings,
     /// How many sums of offset and of alpha went each way out of 16 bits.
     pub ways: [[u64; Way::COUNT]; 2],
+    /// How many records and listings were compared, by the nibble of their alpha_ptat.
+    pub nibbles: [u64; 16],
     /// The first few differences, in words.
     pub shown: Vec<String>,
     /// What this run did not compare, and why.
@@ -237,6 +243,9 @@ impl Tally {
         }
         self.overflows.add(other.overflows);
         for (mine, theirs) in self.ways.iter_mut().flatten().zip(other.ways.iter().flatten()) {
+            *mine += theirs;
+        }
+        for (mine, theirs) in self.nibbles.iter_mut().zip(other.nibbles) {
             *mine += theirs;
         }
         self.shown.extend(other.shown);
