@@ -86,6 +86,7 @@ static void decoding(void) {
   set(0x2439, 0x0046);
   set(0x243A, 0xFBB5);
   set(0x243C, 0x0080);
+  set(0x2410, 0x5000);
   set(0x2411, 0xFFC9);
   set(0x2420, 0x7000);
   set(0x2421, 0x2000);
@@ -97,6 +98,7 @@ static void decoding(void) {
   CHECK(kept(offset, 1536, sizeof offset) && kept(alpha, 3072, sizeof alpha));
   CHECK(kept(k_ta, 3072, sizeof k_ta) && kept(record, RECORD, sizeof record));
   CHECK(mofuleka_read_i16(record) == -3168 && mofuleka_read_i16(record + 2) == -13056);
+  CHECK(mofuleka_read_f32(record + MOFULEKA_RECORD_ALPHA_PTAT) == 9.25f);
   CHECK(mofuleka_read_i16(offset) == -55 && mofuleka_read_i16(offset + 1534) == -55);
   CHECK(mofuleka_read_f32(alpha) == 8192.0f / 137438953472.0f);
   CHECK(mofuleka_read_f32(k_ta) == 5.0f / 256.0f);

@@ -173,7 +173,17 @@ impl Calibration {
         self.record.f32(place::V_PTAT_25)
     }
 
-    /// `Alpha_PTAT`.
+    /// `Alpha_PTAT`: 8 and a quarter for each step of the top nibble at 0x2410, as the datasheet has it. mlx9064x has whole
+    /// steps: 9 for this image.
+    ///
+    /// ```
+    /// use mofuleka::{lent, Calibration};
+    ///
+    /// let mut image = [0u8; lent::IMAGE_BYTES];
+    /// image[2 * 0x10..][..2].copy_from_slice(&0x5000u16.to_be_bytes()); // 0x2410: nibble 5
+    /// assert_eq!(Calibration::from_data(&image)?.alpha_ptat(), 9.25);
+    /// # Ok::<(), mofuleka::Refusal>(())
+    /// ```
     pub fn alpha_ptat(&self) -> f32 {
         self.record.f32(place::ALPHA_PTAT)
     }

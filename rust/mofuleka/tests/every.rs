@@ -227,6 +227,13 @@ fn zero_image() {
 }
 
 #[test]
+fn alpha_ptat_in_quarter_steps() {
+    for nibble in 0..16u16 {
+        assert_eq!(calibration(&[(0x2410, nibble << 12)]).alpha_ptat(), f32::from(32 + nibble) / 4.0);
+    }
+}
+
+#[test]
 fn readings() {
     let c = calibration(&[(0x2433, 0x9D68)]);
     assert_eq!((c.k_v_dd(), c.v_dd_25()), (-3168, -13056));
