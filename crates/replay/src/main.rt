@@ -7,6 +7,11 @@ use mofuleka::mofuleka_from_data;
 use std::num::wrapping_add_u8;
 ghost use Prim.Native.Nat.{_≤_, _<_};
 
+// Where alpha_ptat's second byte stands in a record, and its nibble, at the top of the word at 0x2410, in an image.
+const STEPS_BYTE: usize = 18;
+
+const NIBBLE_BYTE: usize = 32;
+
 // What became of one entry of the sample.
 enum Outcome {
     // The sample has ended.
@@ -64,7 +69,7 @@ fn record_as_recorded(got: &[u8; 122], quarters: u8) -> bool {
     if io::read_full(STDIN_FILENO, &mut recorded) < 122 {
         return false;
     }
-    recorded[18] = wrapping_add_u8(recorded[18], quarters % 4 * 4);
+    recorded[STEPS_BYTE] = wrapping_add_u8(recorded[STEPS_BYTE], quarters % 4 * 4);
     check::same(&recorded, got)
 }
 
@@ -98,7 +103,7 @@ fn decoded_as(bytes: &[u8], length: usize, expected: u64) -> Outcome {
             Outcome::Different
         };
     }
-    let quarters = util::byte(bytes, 32) / 16 % 4;
+    let quarters = util::byte(bytes, NIBBLE_BYTE) / 16 % 4;
     let same_record = record_as_recorded(&record, quarters);
     let same_offset = as_recorded(&offset);
     let same_alpha = as_recorded(&alpha);
