@@ -142,6 +142,21 @@ fn count_listing(tally: &mut Tally, apart: &Apart, numbers: u64) {
     tally.equal(Held::Datasheet, of_datasheet);
 }
 
+/// The lines of a listing but that of alpha_ptat.
+fn others(listing: &str) -> Vec<&str> {
+    listing.lines().filter(|line| !line.starts_with("alpha_ptat ")).collect()
+}
+
+/// What a listing that differs was held to: the datasheet, where only alpha_ptat differs and the crate has another.
+fn held_where(held: Held, image: &[u8], ours: &str, expected: &str) -> Held {
+    let quarters = held == Held::Crate && Apart::of(image).quarters.is_some();
+    if quarters && others(ours) == others(expected) {
+        Held::Datasheet
+    } else {
+        held
+    }
+}
+
 pub fn run(tally: &mut Tally, seed: u64) {
     let program = match env::var_os("CALDUMP").map(PathBuf::from) {
         Some(program) if program.exists() => program,
@@ -169,7 +184,7 @@ pub fn run(tally: &mut Tally, seed: u64) {
                     _ => tally.equal(held, numbers as u64),
                 }
             }
-            ours => tally.different(held, || {
+            ours => tally.different(held_where(held, image, ours.as_deref().unwrap_or(""), &expected), || {
                 format!("image {}, {} bytes, {:?}: {:?}, must be {:?}", i, image.len(), source, ours, expected)
             }),
         }

@@ -5,6 +5,7 @@ use std::env;
 use std::fs;
 use std::ops::Range;
 
+use compare::apart::Apart;
 use compare::images;
 use compare::judge::{outcome, Checked, Judge, Outcome, Release};
 use compare::model::{self, ALPHA, K_TA, OFFSET};
@@ -466,9 +467,7 @@ fn ambient_row(word: u16) -> Row {
     let set = [(0x2410, word), (0x2431, 0x2FF1), (0x2432, 0x5952), (0x2433, 0x9D68)];
     let image = images::with(&set);
     let of_crate = Release::decode(&image).answer().expect("the original crate takes an accepted image").record();
-    let mut of_datasheet = of_crate;
-    let quarters = f32::from(word & 0xF000) / 16384.0 + 8.0;
-    of_datasheet[place::ALPHA_PTAT..][..4].copy_from_slice(&quarters.to_be_bytes());
+    let of_datasheet = Apart::of(&image).record(of_crate);
     let degrees = |ambient: f64| format!("{:.4}", ambient);
     let moved = ambient(&of_datasheet) - ambient(&of_crate);
     field(

@@ -330,14 +330,17 @@ impl Bench {
         let panics = matches!(checked, Outcome::Panic(_));
         tally.same(Held::Judges, || format!("{}: panics with overflow checks", name()), panics, overflows);
         match checked.answer() {
-            Some(checked) => self.compare(tally, Held::Checked, &checked, apart, depth, name),
+            Some(checked) => {
+                self.compare(tally, Held::Checked, &checked, apart, depth, name);
+                compare_apart(tally, apart, &checked, name);
+            }
             None if overflows => {}
             None => tally.different(Held::Checked, || format!("{}: no answer with overflow checks", name())),
         }
     }
 }
 
-/// Holds what the crate's release build has where its numbers are others to what it must be.
+/// Holds what a build of the crate has where its numbers are others to what it must be.
 fn compare_apart<J: Judge>(tally: &mut Tally, apart: &Apart, judge: &J, name: &dyn Fn() -> String) {
     let expected = apart.wrapped.iter().map(|w| (w.pixel, w.of_crate.to_bits()));
     let theirs = apart.wrapped.iter().map(|w| (w.pixel, judge.alpha()[w.pixel].to_bits()));
@@ -352,6 +355,8 @@ fn compare_apart<J: Judge>(tally: &mut Tally, apart: &Apart, judge: &J, name: &d
 fn compare_judges<J: Judge>(tally: &mut Tally, model: &Decoded, judge: &J, apart: &Apart, name: &dyn Fn() -> String) {
     let held = Held::Judges;
     compare_records(tally, held, &model.record, &judge.record(), apart, name);
+    let exact = &apart.record(judge.record())[ALPHA_PTAT];
+    tally.same(held, || format!("{}: the model's alpha_ptat", name()), &model.record[ALPHA_PTAT], exact);
     let (ours, expected) = (model.offset.iter(), judge.offset().iter());
     tally.list(held, |pixel| format!("{}: the model's offset {}", name(), pixel), ours, expected);
     let (ours, expected) = (bits_of(&model.alpha), bits_of(judge.alpha()));

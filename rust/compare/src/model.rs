@@ -1,7 +1,7 @@
 //! A model of the rules: what must be answered, in wide integers and the plainest form. It shares nothing with the library.
 //!
 //! It decides which refusal must come, and what alpha is where the original crate's sum wraps (`sums`). It is itself compared
-//! with the original crate on every kind of accepted image.
+//! with the original crate on every kind of accepted image, and with the datasheet's alpha_ptat (`apart`).
 
 pub const WORDS: usize = 832;
 pub const PIXELS: usize = 768;

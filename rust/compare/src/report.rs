@@ -93,35 +93,34 @@ fn by_refusal(tally: &Tally) {
     doings_line("accepted, a sum leaves".to_string(), &tally.overflows);
 }
 
+/// A line of a table with four columns of counts.
+fn four_counts(cells: [String; 5]) {
+    let [name, a, b, c, d] = cells;
+    println!("{:<46} {:>14} {:>14} {:>14} {:>14}", name, a, b, c, d);
+}
+
 /// The ways out of 16 bits, one to a line.
 fn by_way(tally: &Tally) {
-    let line = |cells: [String; 5]| {
-        let [place, a, b, c, d] = cells;
-        println!("{:<46} {:>14} {:>14} {:>14} {:>14}", place, a, b, c, d);
-    };
     println!("Sums outside 16 bits, by where they are; none of these counts may be zero. Counted are all pixels of");
     println!("accepted images, and of images refused with 4 the pixel that is named, outside at its end:");
-    line(["outside", "offset: above", "below", "alpha: above", "below"].map(String::from));
+    four_counts(["outside", "offset: above", "below", "alpha: above", "below"].map(String::from));
     for number in 0..Way::COUNT / 2 {
         let [above, below] = [number, number + Way::COUNT / 2];
         let [offset, alpha] = tally.ways;
         let counts = [offset[above], offset[below], alpha[above], alpha[below]];
         let [a, b, c, d] = counts.map(grouped);
-        line([Way::of_number(number).place().to_string(), a, b, c, d]);
+        four_counts([Way::of_number(number).place().to_string(), a, b, c, d]);
     }
 }
 
 /// Records and listings by the nibble of alpha_ptat, a line for each multiple of 4 and a column for what is above it.
 fn by_nibble(tally: &Tally) {
-    let line = |cells: [String; 5]| {
-        let [nibble, a, b, c, d] = cells;
-        println!("{:<46} {:>14} {:>14} {:>14} {:>14}", nibble, a, b, c, d);
-    };
     println!("alpha_ptat by its nibble: held to the crate where that is a multiple of 4, and to the datasheet elsewhere; none of");
     println!("these counts may be zero:");
-    line(["nibble", "crate", "1 more: sheet", "2 more: sheet", "3 more: sheet"].map(String::from));
-    for (fours, counts) in tally.nibbles.chunks_exact(4).enumerate() {
-        line([(4 * fours).to_string(), grouped(counts[0]), grouped(counts[1]), grouped(counts[2]), grouped(counts[3])]);
+    four_counts(["nibble", "crate", "1 more: sheet", "2 more: sheet", "3 more: sheet"].map(String::from));
+    for fours in [0, 4, 8, 12] {
+        let [a, b, c, d] = [0, 1, 2, 3].map(|more| grouped(tally.nibbles[fours + more]));
+        four_counts([fours.to_string(), a, b, c, d]);
     }
 }
 

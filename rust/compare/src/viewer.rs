@@ -1,5 +1,5 @@
 //! A viewer's use of the calibration, compiled twice from one text: once for the original crate, once for the crate over this
-//! library. Only the crate's name and what is done with an error differ.
+//! library. Only the crate's name and what is done with an error differ. The images are ones on which no number differs.
 use compare::images;
 use compare::tally::{Held, Tally};
 
