@@ -1,7 +1,8 @@
 //! The names of mlx9064x's module of this name: its two traits, for code that is generic over them.
 //!
 //! They are the original's but for what the library does not answer (`alpha_correction`), and `resolution_correction` is a
-//! `Result`. [`Calibration`] and [`Mlx90640`] have all of it as methods of their own too.
+//! `Result`. `alpha_ptat` has quarter steps, where the original has whole ones. [`Calibration`] and [`Mlx90640`] have all of it
+//! as methods of their own too.
 use core::slice;
 
 pub use crate::camera::{Address, PixelAddressRange};
