@@ -92,7 +92,7 @@ fn offset_rows(
     }
 }
 
-// Row r of a table of floats: each sum over a power of two that the caller has looked up.
+// Row r of a table of floats: each sum over a power of two that the caller has made.
 fn float_row(
     words: &[u16; 832],
     rows: &[i32; 24],
