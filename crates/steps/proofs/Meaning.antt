@@ -7,14 +7,15 @@ use mathlib.Core.List.{List, [], _∷_, _++_}
 use Prim.Native.Nat.{ℕ, zero, suc, _+_, _<_, suc-le-suc}
 use native.Mathlib.Nat.{not-suc-le-zero, le-of-suc-le-suc, add-zero}
 use native.Mathlib.Omega.{arith}
-use Rattle.refusal.proofs.Order.{both-none}
+use Rattle.refusal.specs.Code.{acceptedBy, orElse}
+use Rattle.refusal.proofs.Order.{both-none, or-passed, or-refused}
 use Rattle.refusal.specs.declared.Refusal.{Refusal}
 use Rattle.refusal.specs.declared.Refusal.the-variants.{None}
 use Rattle.util.specs.Sums.{in16}
 use Rattle.steps.specs.Steps.{Step, term, sum, valueIn, refusalIn, firstOutside, AllInside, FirstIs, stepsFrom}
 use Rattle.steps.proofs.Order.{first-append}
 
-not-none : (s : Step) → refusalIn s ≡ None → ⊥
+pub not-none : (s : Step) → refusalIn s ≡ None → ⊥
 not-none (term t p z) e = let z : _≡_ {A = ℕ} 0 1 = cc in omega arith
 not-none (sum t p z) e = let z : _≡_ {A = ℕ} 0 1 = cc in omega arith
 
@@ -97,3 +98,22 @@ pixels-none f (suc n) p h =
     let e : p + 0 ≡ p = add-zero p in
     none-joined (f p) (stepsFrom f n (p + 1)) (rw e at (h 0 (omega arith)))
     (pixels-none f n (p + 1) (λ k l. let d : p + 1 + k ≡ p + suc k = omega arith in rw d (h (suc k) (suc-le-suc l))))
+
+-- what is found first is the first fault of one of the pixels
+pub found-pixel : (f : ℕ → List Step) (n p : ℕ) (r : Refusal) → firstOutside (stepsFrom f n p) ≡ r → (r ≡ None → ⊥) → (k : ℕ) × (k < n) × (firstOutside (f (p + k)) ≡ r)
+unfolding stepsFrom firstOutside
+found-pixel f zero p r e some = absurd (some (sym e))
+found-pixel f (suc n) p r e some = go (acceptedBy (firstOutside (f p))) refl (λ d. found-pixel f n (p + 1) r d some)
+  where
+    later : Refusal
+    later = firstOutside (stepsFrom f n (p + 1))
+
+    ordered : orElse (firstOutside (f p)) later ≡ r
+    ordered = sym (first-append (f p) (stepsFrom f n (p + 1))) ∙ e
+
+    go : (b : Bool) → acceptedBy (firstOutside (f p)) ≡ b → (later ≡ r → (k : ℕ) × (k < n) × (firstOutside (f (p + 1 + k)) ≡ r)) → (k : ℕ) × (k < suc n) × (firstOutside (f (p + k)) ≡ r)
+    go true h rest =
+        let m = rest (sym (or-passed (firstOutside (f p)) later h) ∙ ordered) in
+        let q : p + suc (m .0) ≡ p + 1 + m .0 = omega arith in
+        (suc (m .0), suc-le-suc (m .1), rw q (m .2))
+    go false h rest = (0, omega arith, rw (add-zero p) (sym (or-refused (firstOutside (f p)) later h) ∙ ordered))
