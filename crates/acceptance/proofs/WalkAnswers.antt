@@ -18,6 +18,14 @@ use Rattle.walk.proofs.column_terms.Kinds as ColumnTermsK
 use Rattle.walk.proofs.column_terms.Reads as ColumnTerms
 use Rattle.walk.proofs.k_ta_columns.Kinds as KTaColumnsK
 use Rattle.walk.proofs.k_ta_columns.Reads as KTaColumns
+use Rattle.walk.proofs.k_ta_average_word.Kinds as KTaAverageWordK
+use Rattle.walk.proofs.k_ta_average_word.Reads as KTaAverageWord
+use Rattle.walk.proofs.shared_terms.Kinds as SharedTermsK
+use Rattle.walk.proofs.shared_terms.Reads as SharedTerms
+use Rattle.walk.proofs.k_ta_terms.Kinds as KTaTermsK
+use Rattle.walk.proofs.k_ta_terms.Reads as KTaTerms
+use Rattle.walk.proofs.fault_of.Kinds as FaultOfK
+use Rattle.walk.proofs.fault_of.Reads as FaultOf
 use Rattle.walk.proofs.first_refusal.Kinds as FirstRefusalK
 use Rattle.walk.proofs.first_refusal.Reads as FirstRefusal
 
@@ -44,6 +52,18 @@ one-column-terms _ a x y p q = let same = one-array _ 64 (x .result) (y .result)
 
 pub one-k-ta-columns : OneAnswer KTaColumnsK.ps KTaColumnsK.r KTaColumns.Learnt
 one-k-ta-columns _ a x y p q = let same = one-array _ 64 (x .result) (y .result) p q in λ i. record { result = same i; lent = (tt, tt) }
+
+pub one-k-ta-average-word : OneAnswer KTaAverageWordK.ps KTaAverageWordK.r KTaAverageWord.Learnt
+one-k-ta-average-word _ _ _ _ p q = λ i. record { result = (p .0 ∙ sym (q .0)) i; lent = (tt, tt) }
+
+pub one-shared-terms : OneAnswer SharedTermsK.ps SharedTermsK.r SharedTerms.Learnt
+one-shared-terms _ _ _ _ p q = λ i. record { result = (p .0 ∙ sym (q .0)) i; lent = (tt, (tt, (tt, (tt, (tt, (tt, (tt, tt))))))) }
+
+pub one-k-ta-terms : OneAnswer KTaTermsK.ps KTaTermsK.r KTaTerms.Learnt
+one-k-ta-terms _ _ _ _ p q = λ i. record { result = (p .0 ∙ sym (q .0)) i; lent = (tt, (tt, (tt, (tt, tt)))) }
+
+pub one-fault-of : OneAnswer FaultOfK.ps FaultOfK.r FaultOf.Learnt
+one-fault-of _ _ _ _ p q = λ i. record { result = (p ∙ sym q) i; lent = (tt, (tt, (tt, tt))) }
 
 pub one-first-refusal : OneAnswer FirstRefusalK.ps FirstRefusalK.r FirstRefusal.Learnt
 one-first-refusal _ _ _ _ p q = λ i. record { result = (p ∙ sym q) i; lent = (tt, tt) }

@@ -5,3 +5,4 @@ pub mod Bound
 pub mod Glance
 pub mod Before
 pub mod Meaning
+pub mod Single

@@ -50,12 +50,13 @@ field-size x low width h = natAbs-le (byWeight (2 ^ (width - 1)) (field x low wi
 pub power-size : (x low : ℕ) → 2 ^ field x low 4 ≤ 32768
 power-size x low = pow-mono {j = 15} (omega (arith, field-below x low 4 (lit< tt)))
 
--- the term of a nibble, the average with it, and a remainder of six bits
+-- the term of a signed field of so many bits; of a nibble; the average; and the average with a row's term
+pub term-size : (x low width y bit : ℕ) → 0 < width → natAbs (termOf (signedField x low width) (field y bit 4)) ≤ 2 ^ (width - 1) * 2 ^ field y bit 4
+term-size x low width y bit h =
+    rw (size-times (signedField x low width) (2 ^ field y bit 4)) (mul-le-mul-right (2 ^ field y bit 4) (field-size x low width h))
+
 pub nibble-term : (w : ℕ → ℕ) (first k x low : ℕ) → natAbs (termOf (nibble w first k) (field x low 4)) ≤ 0x40000
-nibble-term w first k x low =
-    let f = nibble w first k in
-    rw (size-times f (2 ^ field x low 4))
-    (le-trans (mul-le-mul-right (2 ^ field x low 4) (field-size (w (first + k / 4)) (4 * (k % 4)) 4 (lit< tt))) (mul-le-mul-left 8 (power-size x low)))
+nibble-term w first k x low = le-trans (term-size (w (first + k / 4)) (4 * (k % 4)) 4 x low (lit< tt)) (mul-le-mul-left 8 (power-size x low))
 
 pub average-size : (w : ℕ → ℕ) (base : ℕ) → natAbs (average w base) ≤ 0x8000
 average-size w base = field-size (w (base + 1)) 0 16 (lit< tt)
@@ -67,15 +68,12 @@ row-sum-size w base r = omega (arith, size-sum (average w base) (rowTerm w base 
 pub kta-average-size : (w : ℕ → ℕ) (p : ℕ) → natAbs (ktaAverage w p) ≤ 128
 kta-average-size w p = let k = chessboard p in field-size (w (0x36 + k / 2)) (8 * (1 - k % 2)) 8 (lit< tt)
 
+-- a remainder of six bits, and one of three
 pub remainder-size : (w : ℕ → ℕ) (base low p : ℕ) → natAbs (remainderTerm w base low p) ≤ 32 * 2 ^ field (w base) 0 4
-remainder-size w base low p =
-    let x = w (0x40 + p) in
-    rw (size-times (signedField x low 6) (2 ^ field (w base) 0 4)) (mul-le-mul-right (2 ^ field (w base) 0 4) (field-size x low 6 (lit< tt)))
+remainder-size w base low p = term-size (w (0x40 + p)) low 6 (w base) 0 (lit< tt)
 
 pub kta-term-size : (w : ℕ → ℕ) (p : ℕ) → natAbs (ktaTerm w p) ≤ 4 * 2 ^ field (w 0x38) 0 4
-kta-term-size w p =
-    let x = w (0x40 + p) in
-    rw (size-times (signedField x 1 3) (2 ^ field (w 0x38) 0 4)) (mul-le-mul-right (2 ^ field (w 0x38) 0 4) (field-size x 1 3 (lit< tt)))
+kta-term-size w p = term-size (w (0x40 + p)) 1 3 (w 0x38) 0 (lit< tt)
 
 -- ---- in the machine
 pub mag-size : (z : ℤ) → mag z ≤ natAbs z

@@ -17,6 +17,9 @@ use calm::calm_offset;
 use camera::OFFSET_COMPENSATION;
 use camera::SENSITIVITY_SCALE;
 use camera::V_AND_TA_SCALE;
+pub use pixel::fault_of;
+pub use pixel::k_ta_terms;
+pub use pixel::shared_terms;
 use refusal::Refusal;
 use refusal::Table;
 use refusal::accepted;
@@ -25,8 +28,17 @@ use rows::table_refusal;
 pub use shared::column_terms;
 pub use shared::k_ta_columns;
 pub use shared::row_sums;
+pub use terms::k_ta_average_word;
 pub use terms::scale_power;
 pub use terms::scaled;
+
+// The terms of a pixel in one table, and their sum with the average. A term that the table doesn't have is 0.
+pub struct PixelTerms {
+    pub row: i32,
+    pub column: i32,
+    pub own: i32,
+    pub sum: i32,
+}
 
 // The first fault of the offset table.
 fn offset_refusal(words: &[u16; 832]) -> Refusal
