@@ -30,7 +30,7 @@ abbrev Narrow : ℕ → ℕ → ℕ → Type 0
 Narrow l m n = (l < 768) ⊎ ((m < 768) ⊎ (n < 768))
 
 -- the walk refuses by 3 or 4 and by nothing else
-no-length : (xs : List Step) → firstOutside xs ≡ ImageLength → ⊥
+pub no-length : (xs : List Step) → firstOutside xs ≡ ImageLength → ⊥
 no-length xs e = go (refused-first xs ImageLength e (λ d. let z : _≡_ {A = ℕ} 0 1 = cc in omega arith))
   where
     never : (s : Step) → refusalIn s ≡ ImageLength → ⊥
