@@ -22,11 +22,11 @@ use Rattle.util.proofs.Lists.{lowest-at, lowest-none}
 use Rattle.gathering.proofs.Rule.{rule-only}
 
 -- ---- the two ends of a search
-data Search (n : ℕ) (p : ℕ → Bool) : Type 0 where
+pub data Search (n : ℕ) (p : ℕ → Bool) : Type 0 where
   found : (w : ℕ) → w < n → p w ≡ true → ((k : ℕ) → k < w → p k ≡ false) → lowest n p ≡ w → Search n p
   nowhere : ((k : ℕ) → k < n → p k ≡ false) → lowest n p ≡ n → Search n p
 
-search-ends : (n : ℕ) (p : ℕ → Bool) → Search n p
+pub search-ends : (n : ℕ) (p : ℕ → Bool) → Search n p
 search-ends zero p = let none : (k : ℕ) → k < 0 → p k ≡ false = λ k l. absurd (not-suc-le-zero l) in nowhere none (lowest-none 0 p none)
 search-ends (suc n) p = go (p 0) refl (search-ends n (λ k. p (suc k)))
   where
