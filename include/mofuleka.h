@@ -64,6 +64,7 @@ typedef uint64_t mofuleka_answer;
 #define MOFULEKA_K_TA_TABLE_BYTES 3072u
 #define MOFULEKA_RECORD_BYTES 122u
 #define MOFULEKA_GATHERING_BYTES 2496u
+#define MOFULEKA_PIXEL_BYTES 10u
 
 /* Where each field of a record starts in its bytes. docs/INTERFACE.md has the forms. */
 #define MOFULEKA_RECORD_K_V_DD 0u
@@ -86,6 +87,11 @@ typedef uint64_t mofuleka_answer;
 #define MOFULEKA_RECORD_TEMPERATURE_GRADIENT_COEFFICIENT 90u
 #define MOFULEKA_RECORD_INTERLEAVE_CORRECTION_PIXELS 94u
 #define MOFULEKA_RECORD_INTERLEAVE_CORRECTION_CP 118u
+
+/* The same of one pixel's numbers: signed 16 bits, and two floats. */
+#define MOFULEKA_PIXEL_OFFSET 0u
+#define MOFULEKA_PIXEL_ALPHA 2u
+#define MOFULEKA_PIXEL_K_TA 6u
 
 /* ---- taking an answer apart ---- */
 
@@ -134,7 +140,7 @@ static inline uint16_t mofuleka_range_address(mofuleka_answer a) { return (uint1
 static inline uint16_t mofuleka_range_offset(mofuleka_answer a) { return (uint16_t)((a >> 32) & 0xFFFFu); }
 static inline uint16_t mofuleka_range_length(mofuleka_answer a) { return (uint16_t)((a >> 16) & 0xFFFFu); }
 
-/* Numbers out of a table or a record. */
+/* Numbers out of a table, a record or a pixel. */
 static inline uint16_t mofuleka_read_u16(const uint8_t *at) { return (uint16_t)((at[0] << 8) | at[1]); }
 static inline int16_t mofuleka_read_i16(const uint8_t *at) {
   int32_t value = (at[0] << 8) | at[1];
@@ -161,6 +167,8 @@ size_t mofuleka_k_ta_table_bytes(void);
 size_t mofuleka_record_bytes(void);
 /* MOFULEKA_GATHERING_BYTES: a gathering. */
 size_t mofuleka_gathering_bytes(void);
+/* MOFULEKA_PIXEL_BYTES: the offset, alpha and Kta of one pixel. */
+size_t mofuleka_pixel_bytes(void);
 
 /* ---- decoding ---- */
 
@@ -168,6 +176,9 @@ size_t mofuleka_gathering_bytes(void);
 mofuleka_answer mofuleka_from_data(const uint8_t *image, size_t image_len, uint8_t *offset, size_t offset_len,
                                    uint8_t *alpha, size_t alpha_len, uint8_t *k_ta, size_t k_ta_len, uint8_t *record,
                                    size_t record_len);
+/* Gives one pixel's offset, alpha and Kta out of an image, or a page of one, from the words that this pixel needs: also
+ * where only another pixel is at fault. Refusals: 1, 11, 2, then 3 and 4 for this pixel. */
+mofuleka_answer mofuleka_pixel(const uint8_t *image, size_t image_len, size_t pixel, uint8_t *out, size_t out_len);
 
 /* ---- gatherings ---- */
 
@@ -187,6 +198,10 @@ mofuleka_answer mofuleka_gathering_word(const uint8_t *gathering, size_t gatheri
 mofuleka_answer mofuleka_gathering_from_data(const uint8_t *gathering, size_t gathering_len, uint8_t *offset,
                                              size_t offset_len, uint8_t *alpha, size_t alpha_len, uint8_t *k_ta,
                                              size_t k_ta_len, uint8_t *record, size_t record_len);
+/* Gives one pixel's numbers as soon as the words that it needs are held. Refusals: 11, 2 for either slice, 9 and 10 for
+ * the lowest of those words, then 3 and 4 for this pixel. */
+mofuleka_answer mofuleka_gathering_pixel(const uint8_t *gathering, size_t gathering_len, size_t pixel, uint8_t *out,
+                                         size_t out_len);
 
 /* ---- the camera ---- */
 

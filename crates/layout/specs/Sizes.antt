@@ -19,3 +19,6 @@ recordSize = 122
 
 abbrev pub gatheringSize : ℕ
 gatheringSize = 2496
+
+abbrev pub pixelSize : ℕ
+pixelSize = 10
