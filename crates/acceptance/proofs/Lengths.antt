@@ -28,6 +28,11 @@ use Rattle.record.specs.declared.Record.{Record}
 use Rattle.eeprom.specs.Decoding.{refusalOf, decodedOf}
 use Rattle.eeprom.specs.declared.Decoded.{Decoded}
 use Rattle.eeprom.proofs.Refusals.{length-refused, refusal-1}
+use Rattle.eeprom.specs.Image.{imageWords}
+use Rattle.pixel.specs.Answer.{pixelRefusal}
+use Rattle.pixel.specs.declared.PixelAnswer.{PixelAnswer}
+use Rattle.pixel.proofs.Exactly.{answered-refusal, pixel-1}
+use Rattle.mofuleka.proofs.Single.{slice-1}
 use Rattle.listing.specs.Text.{ascii, decimalUpTo}
 use Rattle.listing.specs.Listing.{spaced, listing}
 use Rattle.mofuleka.specs.Answers.{refusalWord}
@@ -37,6 +42,10 @@ use Rattle.eeprom.proofs.from_data.Kinds as FromDataK
 use Rattle.eeprom.proofs.from_data.Reads as FromData
 use Rattle.listing.proofs.list_image.Kinds as ListImageK
 use Rattle.listing.proofs.list_image.Reads as ListImage
+use Rattle.pixel.proofs.pixel.Kinds as PixelK
+use Rattle.pixel.proofs.pixel.Reads as Pixel
+use Rattle.mofuleka.proofs.mofuleka_pixel.Kinds as MofulekaPixelK
+use Rattle.mofuleka.proofs.mofuleka_pixel.Reads as MofulekaPixel
 use Rattle.mofuleka.proofs.mofuleka_from_data.Kinds as MofulekaK
 use Rattle.mofuleka.proofs.mofuleka_from_data.Reads as Mofuleka
 
@@ -66,6 +75,18 @@ module _ (κs : Lfts 4) (a : Dens κs FromDataK.ps) (x : Ending FromDataK.ps Fro
 
   pub joined-from-data : (i j : List ℕ) → now (a .0) ≡ i ++ j → length i ≡ 1664 → length j ≡ 1664 → x .result .refusal ≡ ImageLength
   joined-from-data i j e m n = from-data-length .1 (joined-neither i j e m n .0)
+
+-- ---- one pixel
+module _ (κs : Lfts 1) (a : Dens κs PixelK.ps) (x : Ending PixelK.ps PixelK.r κs a) (p : Allows PixelK.ps PixelK.r Pixel.Learnt κs a x) where
+  pub pixel-length : (x .result .refusal ≡ ImageLength) ↔ (length (now (a .0)) ≡ 1664 → ⊥)
+  pixel-length =
+      let image = now (a .0) in
+      let is = ap (λ (d : PixelAnswer). d .refusal) p ∙ answered-refusal (pixelRefusal image (a .1 .0)) (imageWords image) (a .1 .0) in
+      let one = pixel-1 image (a .1 .0) in
+      (λ e. one .0 (sym is ∙ e), λ n. is ∙ one .1 n)
+
+  pub joined-pixel : (i j : List ℕ) → now (a .0) ≡ i ++ j → length i ≡ 1664 → length j ≡ 1664 → x .result .refusal ≡ ImageLength
+  joined-pixel i j e m n = pixel-length .1 (joined-neither i j e m n .0)
 
 -- ---- the listing: a text that says so
 abbrev pub refused-1 : List ℕ
@@ -150,3 +171,13 @@ module _ (κs : Lfts 5) (a : Dens κs MofulekaK.ps) (x : Ending MofulekaK.ps Mof
 
   pub joined-mofuleka-from-data : (i j : List ℕ) → now (a .0) ≡ i ++ j → length i ≡ 1664 → length j ≡ 1664 → x .result ≡ 1
   joined-mofuleka-from-data i j e m n = mofuleka-from-data-length .1 (joined-neither i j e m n)
+
+module _ (κs : Lfts 2) (a : Dens κs MofulekaPixelK.ps) (x : Ending MofulekaPixelK.ps MofulekaPixelK.r κs a) (p : Allows MofulekaPixelK.ps MofulekaPixelK.r MofulekaPixel.Learnt κs a x) where
+  pub mofuleka-pixel-length : (x .result ≡ 1) ↔ Neither (now (a .0))
+  mofuleka-pixel-length =
+      let input = now (a .0) in
+      let one = slice-1 (imageIn input) (a .1 .0) (length (now (a .1 .1 .0))) in
+      (λ e. no-image input .0 (one .0 (word-1 _ .0 (sym (p .0) ∙ e))), λ h. p .0 ∙ word-1 _ .1 (one .1 (no-image input .1 h)))
+
+  pub joined-mofuleka-pixel : (i j : List ℕ) → now (a .0) ≡ i ++ j → length i ≡ 1664 → length j ≡ 1664 → x .result ≡ 1
+  joined-mofuleka-pixel i j e m n = mofuleka-pixel-length .1 (joined-neither i j e m n)
