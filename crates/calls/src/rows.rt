@@ -3,6 +3,7 @@ use crate::decoding::decoded;
 use crate::gatherings::changed;
 use crate::gatherings::gathering_answer;
 use crate::lent::Lent;
+use crate::pixels::single;
 use crate::say::answer;
 use crate::sizes::size;
 use script::after;
@@ -10,7 +11,7 @@ use script::before;
 use script::letter;
 use script::next_row;
 
-// A call that leaves all that is lent as it is, but for what decoding fills. Rows of other calls come back, and rows that set up memory have no text.
+// A call that leaves all that is lent as it is, but for what decoding and one pixel fill. Rows of other calls come back, and rows that set up memory have no text.
 fn called(lent: Lent, row: &[u8]) {
     let what = after(b'|', row);
     if what.len() == 0 {
@@ -19,6 +20,7 @@ fn called(lent: Lent, row: &[u8]) {
     match letter(row, 0) {
         b'S' => size(what, row),
         b'D' => decoded(what, lent, row),
+        b'O' => single(what, lent, row),
         b'A' | b'M' | b'F' => {}
         _ => answer(what, gathering_answer(lent, row)),
     }

@@ -10,6 +10,12 @@ pub fn decimal(n: u64) {
     io::print_decimal(STDOUT_FILENO, n);
 }
 
+// A number in so many hexadecimal digits, behind a blank.
+pub fn hex(n: u64, digits: usize) {
+    text(b" ");
+    io::print_hex(STDOUT_FILENO, n, digits);
+}
+
 pub fn answer(what: &[u8], word: u64) {
     text(what);
     text(b": ");

@@ -6,6 +6,7 @@ use mofuleka::mofuleka_gathering_bytes;
 use mofuleka::mofuleka_image_bytes;
 use mofuleka::mofuleka_k_ta_table_bytes;
 use mofuleka::mofuleka_offset_table_bytes;
+use mofuleka::mofuleka_pixel_bytes;
 use mofuleka::mofuleka_record_bytes;
 use script::number;
 
@@ -17,7 +18,8 @@ fn size_at(n: u16) -> usize {
         2 => mofuleka_alpha_table_bytes(),
         3 => mofuleka_k_ta_table_bytes(),
         4 => mofuleka_record_bytes(),
-        _ => mofuleka_gathering_bytes(),
+        5 => mofuleka_gathering_bytes(),
+        _ => mofuleka_pixel_bytes(),
     }
 }
 
