@@ -19,6 +19,7 @@ void *memset(void *to, int byte, size_t count) {
 uint8_t image[MOFULEKA_IMAGE_BYTES], record[MOFULEKA_RECORD_BYTES], block[133];
 uint8_t offset[MOFULEKA_OFFSET_TABLE_BYTES], alpha[MOFULEKA_ALPHA_TABLE_BYTES], k_ta[MOFULEKA_K_TA_TABLE_BYTES];
 uint8_t gathering[MOFULEKA_GATHERING_BYTES], other[MOFULEKA_GATHERING_BYTES];
+uint8_t out[MOFULEKA_PIXEL_BYTES];
 volatile uint32_t number;
 volatile mofuleka_answer answer;
 
@@ -37,6 +38,12 @@ void start(void) {
 #ifdef GATHERED
   answer = mofuleka_gathering_from_data(gathering, sizeof gathering, offset, sizeof offset, alpha, sizeof alpha, k_ta,
                                         sizeof k_ta, record, sizeof record);
+#endif
+#ifdef PIXEL
+  answer = mofuleka_pixel(image, sizeof image, number, out, sizeof out);
+#endif
+#ifdef GATHERED_PIXEL
+  answer = mofuleka_gathering_pixel(gathering, sizeof gathering, number, out, sizeof out);
 #endif
 #ifdef CAMERA
   answer = mofuleka_pixel_in_subpage(number, number, number);

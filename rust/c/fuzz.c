@@ -32,6 +32,7 @@
 #define FLOATS_BYTES 3072u
 #define RECORD_BYTES 122u
 #define GATHERING_BYTES 2496u
+#define PIXEL_BYTES 10u
 #define BLOCK_BYTES 133u
 #define LARGEST_LAYOUT 3072u
 #define WORDS 832u
@@ -72,6 +73,7 @@ enum {
   SIZE_OF_K_TA_TABLE,
   SIZE_OF_RECORD,
   SIZE_OF_GATHERING,
+  SIZE_OF_PIXEL,
   FROM_DATA,
   FRESH,
   ACCEPT,
@@ -79,6 +81,8 @@ enum {
   STATUS,
   WORD,
   GATHERING_FROM_DATA,
+  ONE_PIXEL,
+  GATHERING_PIXEL,
   PIXEL_IN_SUBPAGE,
   PIXEL_RANGE_COUNT,
   PIXEL_RANGE,
@@ -106,6 +110,10 @@ static const struct slice gathering_and_block[] = {{"gathering", GATHERING_BYTES
                                                    {"block", BLOCK_BYTES, A_BLOCK, READ}};
 static const struct slice two_gatherings[] = {{"gathering", GATHERING_BYTES, A_GATHERING, READ_AND_WRITTEN},
                                               {"other", GATHERING_BYTES, A_GATHERING, READ}};
+static const struct slice image_and_pixel[] = {{"image", IMAGE_BYTES, AN_IMAGE, READ},
+                                               {"out", PIXEL_BYTES, A_TABLE, WRITTEN}};
+static const struct slice gathering_and_pixel[] = {{"gathering", GATHERING_BYTES, A_GATHERING, READ},
+                                                   {"out", PIXEL_BYTES, A_TABLE, WRITTEN}};
 static const struct slice gathering_written[] = {{"gathering", GATHERING_BYTES, A_GATHERING, WRITTEN}};
 static const struct slice gathering_read[] = {{"gathering", GATHERING_BYTES, A_GATHERING, READ}};
 static const struct slice record_read[] = {{"record", RECORD_BYTES, A_RECORD, READ}};
@@ -117,6 +125,7 @@ static const struct function functions[FUNCTIONS] = {
     {"mofuleka_k_ta_table_bytes", 1, 0, NULL, 0, {NO_NUMBER}},
     {"mofuleka_record_bytes", 1, 0, NULL, 0, {NO_NUMBER}},
     {"mofuleka_gathering_bytes", 1, 0, NULL, 0, {NO_NUMBER}},
+    {"mofuleka_pixel_bytes", 1, 0, NULL, 0, {NO_NUMBER}},
     {"mofuleka_from_data", 16, 5, image_and_tables, 0, {NO_NUMBER}},
     {"mofuleka_gathering_fresh", 4, 1, gathering_written, 0, {NO_NUMBER}},
     {"mofuleka_gathering_accept", 32, 2, gathering_and_block, 0, {NO_NUMBER}},
@@ -124,6 +133,8 @@ static const struct function functions[FUNCTIONS] = {
     {"mofuleka_gathering_status", 8, 1, gathering_read, 0, {NO_NUMBER}},
     {"mofuleka_gathering_word", 8, 1, gathering_read, 1, {A_WORD}},
     {"mofuleka_gathering_from_data", 16, 5, gathering_and_tables, 0, {NO_NUMBER}},
+    {"mofuleka_pixel", 16, 2, image_and_pixel, 1, {A_PIXEL}},
+    {"mofuleka_gathering_pixel", 16, 2, gathering_and_pixel, 1, {A_PIXEL}},
     {"mofuleka_pixel_in_subpage", 6, 0, NULL, 3, {A_SELECTOR, A_SELECTOR, A_PIXEL}},
     {"mofuleka_pixel_range_count", 2, 0, NULL, 1, {A_SELECTOR}},
     {"mofuleka_pixel_range", 6, 0, NULL, 3, {A_SELECTOR, A_SELECTOR, A_RANGE}},
@@ -157,7 +168,9 @@ static const struct slice *slice_of(const struct call *c, unsigned i) { return &
 
 static size_t least(size_t a, size_t b) { return a < b ? a : b; }
 
-static int is_size(const struct call *c) { return c->function <= SIZE_OF_GATHERING; }
+static int is_size(const struct call *c) { return c->function <= SIZE_OF_PIXEL; }
+
+static int is_pixel(const struct call *c) { return c->function == ONE_PIXEL || c->function == GATHERING_PIXEL; }
 
 static int is_refused(const struct call *c, mofuleka_answer a) { return !is_size(c) && mofuleka_refused(a); }
 
@@ -360,14 +373,23 @@ static int fourth(const uint8_t *image, unsigned start, unsigned i) {
 
 static int fits(int number) { return number >= -32768 && number <= 32767; }
 
-/* What makes up one pixel's sum in the offset table (0) or in alpha (1). */
+/* What makes up one pixel's sum in the offset table (0), in alpha (1) or in Kta (2), which has no row and column. */
 struct sum {
   int average, row, column, remainder;
 };
 
+static struct sum k_ta_sum(const uint8_t *image, unsigned pixel) {
+  unsigned odd_row = pixel / 32 % 2, odd_column = pixel % 2;
+  struct sum s = {0, 0, 0, 0};
+  s.average = signed_bits(word_at(image, 0x2436 + odd_column), odd_row ? 0 : 8, 8);
+  s.remainder = signed_bits(word_at(image, 0x2440 + pixel), 1, 3) * (1 << (word_at(image, 0x2438) & 15));
+  return s;
+}
+
 static struct sum sum_of(const uint8_t *image, unsigned table, unsigned pixel) {
   unsigned start = 0x2410 + 16 * table, scales = word_at(image, start);
   struct sum s;
+  if (table == 2) return k_ta_sum(image, pixel);
   s.average = signed_bits(word_at(image, start + 1), 0, 16);
   s.row = fourth(image, start + 2, pixel / 32) * (1 << (scales >> 8 & 15));
   s.column = fourth(image, start + 8, pixel % 32) * (1 << (scales >> 4 & 15));
@@ -375,11 +397,13 @@ static struct sum sum_of(const uint8_t *image, unsigned table, unsigned pixel) {
   return s;
 }
 
+static int whole(struct sum s) { return s.average + s.row + s.column + s.remainder; }
+
 /* What fails first in such a pixel; 0 if nothing does. All terms come before the sum, and alpha's sum may be anything. */
 static unsigned pixel_failure(const uint8_t *image, unsigned table, unsigned pixel) {
   struct sum s = sum_of(image, table, pixel);
   if (!fits(s.row) || !fits(s.column) || !fits(s.remainder)) return MOFULEKA_TERM_OUTSIDE;
-  return table == 0 && !fits(s.average + s.row + s.column + s.remainder) ? MOFULEKA_SUM_OUTSIDE : 0;
+  return table != 1 && !fits(whole(s)) ? MOFULEKA_SUM_OUTSIDE : 0;
 }
 
 /* Whether an offset is outside 16 bits before all its terms are in, which is no failure. */
@@ -392,15 +416,6 @@ static int is_returning(const uint8_t *image) {
   return 0;
 }
 
-/* The same in one pixel of Kta. */
-static unsigned k_ta_failure(const uint8_t *image, unsigned pixel) {
-  unsigned odd_row = pixel / 32 % 2, odd_column = pixel % 2;
-  int average = signed_bits(word_at(image, 0x2436 + odd_column), odd_row ? 0 : 8, 8);
-  int remainder = signed_bits(word_at(image, 0x2440 + pixel), 1, 3) * (1 << (word_at(image, 0x2438) & 15));
-  if (!fits(remainder)) return MOFULEKA_TERM_OUTSIDE;
-  return fits(average + remainder) ? 0 : MOFULEKA_SUM_OUTSIDE;
-}
-
 /* Accepted images with an offset that left 16 bits and came back. */
 static uint64_t returning;
 
@@ -409,7 +424,7 @@ static mofuleka_answer walk(const uint8_t *image) {
   unsigned table, pixel;
   for (table = 0; table < 3; table++)
     for (pixel = 0; pixel < PIXELS; pixel++) {
-      unsigned failure = table < 2 ? pixel_failure(image, table, pixel) : k_ta_failure(image, pixel);
+      unsigned failure = pixel_failure(image, table, pixel);
       if (failure != 0) return refusal(failure, table, pixel);
     }
   returning += is_returning(image);
@@ -464,6 +479,65 @@ static mofuleka_answer answer_gathering_from_data(const struct call *c) {
   missing = lowest_marked(content[0], MOFULEKA_MISSING);
   if (missing < WORDS) return refusal(MOFULEKA_WORD_MISSING, 0, missing);
   return short_tables(c) ? plain(MOFULEKA_SHORT_SLICE) : walk(content[0]);
+}
+
+#define NEEDED_WORDS 11
+
+/* The words that one pixel needs, rising. */
+static void needed_words(unsigned pixel, unsigned *words) {
+  unsigned start, four_rows = pixel / 32 / 4, four_columns = pixel % 32 / 4;
+  for (start = 0x10; start <= 0x20; start += 0x10) {
+    *words++ = start;
+    *words++ = start + 1;
+    *words++ = start + 2 + four_rows;
+    *words++ = start + 8 + four_columns;
+  }
+  *words++ = 0x36 + pixel % 2;
+  *words++ = 0x38;
+  *words = 0x40 + pixel;
+}
+
+static int is_needed(unsigned pixel, unsigned word) {
+  unsigned words[NEEDED_WORDS], i;
+  needed_words(pixel, words);
+  for (i = 0; i < NEEDED_WORDS; i++)
+    if (words[i] == word) return 1;
+  return 0;
+}
+
+/* The lowest of the words that a pixel needs with a mark, WORDS if there is none. */
+static unsigned lowest_needed(const uint8_t *gathering, unsigned pixel, unsigned mark) {
+  unsigned words[NEEDED_WORDS], i;
+  needed_words(pixel, words);
+  for (i = 0; i < NEEDED_WORDS; i++)
+    if (state_at(gathering, words[i]).mark == mark) return words[i];
+  return WORDS;
+}
+
+/* The first failure of one pixel by itself, or that it is answered. */
+static mofuleka_answer pixel_walk(const uint8_t *image, unsigned pixel) {
+  unsigned table;
+  for (table = 0; table < 3; table++) {
+    unsigned failure = pixel_failure(image, table, pixel);
+    if (failure != 0) return refusal(failure, table, pixel);
+  }
+  return MOFULEKA_ACCEPTED;
+}
+
+static mofuleka_answer answer_pixel(const struct call *c) {
+  unsigned pixel = (unsigned)c->number[0];
+  int is_image = c->function == ONE_PIXEL;
+  if (is_image && c->len[0] != IMAGE_BYTES && c->len[0] != PAGE_BYTES) return plain(MOFULEKA_IMAGE_LENGTH);
+  if (c->number[0] >= PIXELS) return plain(MOFULEKA_PAST_THE_END);
+  if (!is_image && c->len[0] < GATHERING_BYTES) return plain(MOFULEKA_SHORT_SLICE);
+  if (c->len[1] < PIXEL_BYTES) return plain(MOFULEKA_SHORT_SLICE);
+  if (!is_image) {
+    unsigned in_conflict = lowest_needed(content[0], pixel, MOFULEKA_IN_CONFLICT);
+    unsigned missing = lowest_needed(content[0], pixel, MOFULEKA_MISSING);
+    if (in_conflict < WORDS) return refusal(MOFULEKA_WORD_IN_CONFLICT, 0, in_conflict);
+    if (missing < WORDS) return refusal(MOFULEKA_WORD_MISSING, 0, missing);
+  }
+  return pixel_walk(content[0], pixel);
 }
 
 static unsigned block_says(const uint8_t *block) { return mofuleka_read_u16(block); }
@@ -562,12 +636,13 @@ static mofuleka_answer answer_record(const struct call *c) {
 }
 
 static mofuleka_answer must_answer(const struct call *c) {
-  static const unsigned sizes[] = {IMAGE_BYTES,  OFFSET_BYTES, FLOATS_BYTES,
-                                   FLOATS_BYTES, RECORD_BYTES, GATHERING_BYTES};
+  static const unsigned sizes[] = {IMAGE_BYTES,  OFFSET_BYTES,    FLOATS_BYTES, FLOATS_BYTES,
+                                   RECORD_BYTES, GATHERING_BYTES, PIXEL_BYTES};
   if (is_size(c)) return sizes[c->function];
   if (c->function == FROM_DATA) return answer_from_data(c);
   if (c->function == GATHERING_FROM_DATA) return answer_gathering_from_data(c);
   if (c->function < GATHERING_FROM_DATA) return answer_gatherings(c);
+  if (is_pixel(c)) return answer_pixel(c);
   return c->function < K_V_PIXEL ? answer_camera(c) : answer_record(c);
 }
 
@@ -617,6 +692,47 @@ static void check_same_image(const struct call *c) {
                slice_of(c, i)->layout);
 }
 
+/* n / 2^k, exactly, as its bytes. */
+static void put_over(uint8_t *to, int n, unsigned k) {
+  float number = (float)n;
+  uint32_t bits;
+  for (; k > 0; k--) number /= 2;
+  memcpy(&bits, &number, sizeof bits);
+  to[0] = (uint8_t)(bits >> 24);
+  to[1] = (uint8_t)(bits >> 16);
+  to[2] = (uint8_t)(bits >> 8);
+  to[3] = (uint8_t)bits;
+}
+
+/* The three numbers of one pixel, out of the words that it needs. */
+static void check_pixel(const struct call *c) {
+  const uint8_t *image = content[0];
+  unsigned pixel = (unsigned)c->number[0];
+  int offset = whole(sum_of(image, 0, pixel));
+  uint8_t must[PIXEL_BYTES];
+  must[0] = (uint8_t)((unsigned)offset >> 8);
+  must[1] = (uint8_t)offset;
+  put_over(must + 2, whole(sum_of(image, 1, pixel)), 30 + (word_at(image, 0x2420) >> 12));
+  put_over(must + 6, whole(sum_of(image, 2, pixel)), 8 + (word_at(image, 0x2438) >> 4 & 15));
+  same_bytes(c, "the pixel as written", "out", 0, after[1], must, sizeof must);
+}
+
+/* Pixels that were answered although the decoder refuses an image with the same words. */
+static uint64_t answered_alone;
+
+/* Where the decoder accepts an image with the same words, a pixel's numbers are the entries of its tables. */
+static void check_entries(const struct call *c) {
+  static uint8_t tables[MOST_SLICES][LARGEST_LAYOUT];
+  size_t pixel = (size_t)c->number[0];
+  mofuleka_answer a = mofuleka_from_data(content[0], IMAGE_BYTES, tables[1], OFFSET_BYTES, tables[2], FLOATS_BYTES,
+                                         tables[3], FLOATS_BYTES, tables[4], RECORD_BYTES);
+  answered_alone += mofuleka_refused(a);
+  if (mofuleka_refused(a)) return;
+  same_bytes(c, "not the offset table's entry", "out", 0, after[1], tables[1] + 2 * pixel, 2);
+  same_bytes(c, "not the alpha table's entry", "out", 2, after[1] + 2, tables[2] + 4 * pixel, 4);
+  same_bytes(c, "not the Kta table's entry", "out", 6, after[1] + 6, tables[3] + 4 * pixel, 4);
+}
+
 /* ---- one call, made twice ---- */
 
 /* A block has no bytes past its layout. */
@@ -629,13 +745,26 @@ static void turn(uint8_t *bytes, size_t size) {
   for (; size > 0; size--, bytes++) *bytes ^= 0xFF;
 }
 
+/* Turns the words that a pixel does not need, of an image or of a gathering, whose marks go with them. */
+static void turn_others(const struct call *c, size_t size) {
+  unsigned word;
+  for (word = 0; word < WORDS; word++) {
+    if (c->number[0] < PIXELS && is_needed((unsigned)c->number[0], word)) continue;
+    if (2 * word + 2 <= size) turn(before[0] + 2 * word, 2);
+    if (IMAGE_BYTES + word < size) turn(before[0] + IMAGE_BYTES + word, 1);
+  }
+}
+
 /* Makes every byte another one in the second call that the answer must not depend on. */
 static void make_different(const struct call *c, unsigned i) {
   const struct slice *s = slice_of(c, i);
   size_t held = least(c->len[i], ROOM), layout = layout_held(c, i);
   turn(before[i] + layout, held - layout);
   if (s->use == WRITTEN) turn(before[i], layout);
-  if (s->what == AN_IMAGE) turn(before[i], least(layout, 32));
+  if (is_pixel(c) && i == 0)
+    turn_others(c, layout);
+  else if (s->what == AN_IMAGE)
+    turn(before[i], least(layout, 32));
 }
 
 /* The bytes on the free side of a slice. */
@@ -692,6 +821,7 @@ static void check_form(const struct call *c, mofuleka_answer a) {
 
 static mofuleka_answer invoke_gatherings(const struct call *c) {
   struct lent *s = lent;
+  size_t number = (size_t)c->number[0];
   switch (c->function) {
     case FROM_DATA:
       return mofuleka_from_data(s[0].at, s[0].len, s[1].at, s[1].len, s[2].at, s[2].len, s[3].at, s[3].len, s[4].at,
@@ -700,7 +830,9 @@ static mofuleka_answer invoke_gatherings(const struct call *c) {
     case ACCEPT: return mofuleka_gathering_accept(s[0].at, s[0].len, s[1].at, s[1].len);
     case MERGE: return mofuleka_gathering_merge(s[0].at, s[0].len, s[1].at, s[1].len);
     case STATUS: return mofuleka_gathering_status(s[0].at, s[0].len);
-    case WORD: return mofuleka_gathering_word(s[0].at, s[0].len, (size_t)c->number[0]);
+    case WORD: return mofuleka_gathering_word(s[0].at, s[0].len, number);
+    case ONE_PIXEL: return mofuleka_pixel(s[0].at, s[0].len, number, s[1].at, s[1].len);
+    case GATHERING_PIXEL: return mofuleka_gathering_pixel(s[0].at, s[0].len, number, s[1].at, s[1].len);
     default:
       return mofuleka_gathering_from_data(s[0].at, s[0].len, s[1].at, s[1].len, s[2].at, s[2].len, s[3].at, s[3].len,
                                           s[4].at, s[4].len);
@@ -717,6 +849,7 @@ static mofuleka_answer invoke_sizes_and_camera(const struct call *c) {
     case SIZE_OF_K_TA_TABLE: return mofuleka_k_ta_table_bytes();
     case SIZE_OF_RECORD: return mofuleka_record_bytes();
     case SIZE_OF_GATHERING: return mofuleka_gathering_bytes();
+    case SIZE_OF_PIXEL: return mofuleka_pixel_bytes();
     case PIXEL_IN_SUBPAGE: return mofuleka_pixel_in_subpage(first, second, third);
     case PIXEL_RANGE_COUNT: return mofuleka_pixel_range_count(first);
     case PIXEL_RANGE: return mofuleka_pixel_range(first, second, third);
@@ -739,7 +872,7 @@ static mofuleka_answer invoke_record(const struct call *c) {
 }
 
 static mofuleka_answer invoke(const struct call *c) {
-  if (c->function >= FROM_DATA && c->function <= GATHERING_FROM_DATA) return invoke_gatherings(c);
+  if (c->function >= FROM_DATA && c->function <= GATHERING_PIXEL) return invoke_gatherings(c);
   return c->function < K_V_PIXEL ? invoke_sizes_and_camera(c) : invoke_record(c);
 }
 
@@ -786,6 +919,8 @@ static mofuleka_answer call_twice(const struct call *c) {
   compare_written(c, 1);
   if (c->function == FRESH || c->function == ACCEPT || c->function == MERGE) check_gathering(c);
   if (c->function == GATHERING_FROM_DATA && below(4) == 0) check_same_image(c);
+  if (is_pixel(c)) check_pixel(c);
+  if (is_pixel(c) && below(4) == 0) check_entries(c);
   return first;
 }
 
@@ -1299,8 +1434,9 @@ static int tell_table(double seconds) {
          (unsigned long long)sweep.completed);
   printf("%llu accepted images with an offset that left 16 bits and came back\n", (unsigned long long)returning);
   printf("%llu accepted pages\n", (unsigned long long)pages);
-  seen = seen && returning > 0 && pages > 0;
-  if (!seen) printf("wrong: no call of a function, a slice not placed both ways, no offset that came back, or no page\n");
+  printf("%llu pixels answered of images that are refused\n", (unsigned long long)answered_alone);
+  seen = seen && returning > 0 && pages > 0 && answered_alone > 0;
+  if (!seen) printf("wrong: no call of a function, a slice not placed both ways, or none of what these lines count\n");
   printf("%llu calls in %.0f seconds, 0 faults, %d wrong\n", (unsigned long long)calls, seconds, !seen);
   return !seen;
 }

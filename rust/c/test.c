@@ -21,6 +21,7 @@ static uint8_t image[2 * MOFULEKA_IMAGE_BYTES];
 static uint8_t offset[MOFULEKA_OFFSET_TABLE_BYTES + 8], alpha[MOFULEKA_ALPHA_TABLE_BYTES + 8];
 static uint8_t k_ta[MOFULEKA_K_TA_TABLE_BYTES + 8], record[RECORD + 8];
 static uint8_t gathering[MOFULEKA_GATHERING_BYTES + 8], other[MOFULEKA_GATHERING_BYTES + 8];
+static uint8_t out[MOFULEKA_PIXEL_BYTES + 8];
 
 static void set(unsigned address, unsigned word) {
   image[2 * (address - 0x2400)] = (uint8_t)(word >> 8);
@@ -57,6 +58,7 @@ static void sizes(void) {
   CHECK(mofuleka_k_ta_table_bytes() == 3072);
   CHECK(mofuleka_record_bytes() == 122);
   CHECK(mofuleka_gathering_bytes() == 2496);
+  CHECK(mofuleka_pixel_bytes() == 10);
 }
 
 static void decoding(void) {
@@ -159,6 +161,60 @@ static void sums(void) {
   CHECK(mofuleka_number(decode(1664)) == MOFULEKA_SUM_OUTSIDE && mofuleka_place(decode(1664)) == 31);
 }
 
+/* Whether a call was refused with this number and left every byte. */
+static int pixel_refused(mofuleka_answer a, unsigned number) {
+  return mofuleka_number(a) == number && kept(out, 0, sizeof out);
+}
+
+static void one_pixel(void) {
+  mofuleka_answer a;
+  memset(image, 0, sizeof image);
+  memset(out, 0x5A, sizeof out);
+  set(0x2411, 0x7FFF);
+  set(0x2413, 0x0010);
+  set(0x2421, 0x2000);
+  set(0x2437, 0x0005);
+  CHECK(pixel_refused(mofuleka_pixel(image, 1663, 768, out, 9), MOFULEKA_IMAGE_LENGTH));
+  CHECK(pixel_refused(mofuleka_pixel(image, 3328, 768, out, 9), MOFULEKA_IMAGE_LENGTH));
+  CHECK(pixel_refused(mofuleka_pixel(image, 1664, 768, out, 9), MOFULEKA_PAST_THE_END));
+  CHECK(pixel_refused(mofuleka_pixel(image, 1664, SIZE_MAX, out, 10), MOFULEKA_PAST_THE_END));
+  CHECK(pixel_refused(mofuleka_pixel(image, 1664, 160, out, 9), MOFULEKA_SHORT_SLICE));
+  a = mofuleka_pixel(image, 1664, 191, out, 10);
+  CHECK(pixel_refused(a, MOFULEKA_SUM_OUTSIDE) && mofuleka_table(a) == 0 && mofuleka_place(a) == 191);
+
+  /* Beside the row at fault there are answers; the bytes behind one keep their content. */
+  memset(image + MOFULEKA_IMAGE_BYTES, 0xEE, MOFULEKA_IMAGE_BYTES);
+  CHECK(mofuleka_pixel(image, 2048, 33, out, sizeof out) == MOFULEKA_ACCEPTED);
+  CHECK(mofuleka_read_i16(out + MOFULEKA_PIXEL_OFFSET) == 32767);
+  CHECK(mofuleka_read_f32(out + MOFULEKA_PIXEL_ALPHA) == 8192.0f / 1073741824.0f);
+  CHECK(mofuleka_read_f32(out + MOFULEKA_PIXEL_K_TA) == 5.0f / 256.0f);
+  CHECK(kept(out, MOFULEKA_PIXEL_BYTES, sizeof out));
+}
+
+/* A pixel of a gathering that holds the words 0x10 to 0x4F: all that the first sixteen pixels need. */
+static void one_pixel_gathered(void) {
+  static const uint8_t another[] = {0x00, 0x05, 0x01, 0x00, 0x4F, 0x00, 0x01};
+  uint8_t block[5 + 128] = {0, 131, 1, 0, 0x10, 0, 0, 0x12, 0x34};
+  mofuleka_answer a;
+  memset(out, 0x5A, sizeof out);
+  CHECK(mofuleka_gathering_fresh(gathering, 2496) == MOFULEKA_ACCEPTED);
+  CHECK(pixel_refused(mofuleka_gathering_pixel(gathering, 2495, 768, out, 9), MOFULEKA_PAST_THE_END));
+  CHECK(pixel_refused(mofuleka_gathering_pixel(gathering, 2495, 15, out, 10), MOFULEKA_SHORT_SLICE));
+  CHECK(pixel_refused(mofuleka_gathering_pixel(gathering, 2496, 15, out, 9), MOFULEKA_SHORT_SLICE));
+  a = mofuleka_gathering_pixel(gathering, 2496, 15, out, 10);
+  CHECK(pixel_refused(a, MOFULEKA_WORD_MISSING) && mofuleka_place(a) == 0x10);
+  CHECK(mofuleka_gathering_accept(gathering, 2496, block, sizeof block) == MOFULEKA_ACCEPTED);
+  a = mofuleka_gathering_pixel(gathering, 2496, 16, out, 10);
+  CHECK(pixel_refused(a, MOFULEKA_WORD_MISSING) && mofuleka_place(a) == 0x50);
+  CHECK(mofuleka_gathering_pixel(gathering, sizeof gathering, 15, out, sizeof out) == MOFULEKA_ACCEPTED);
+  CHECK(mofuleka_read_i16(out) == 0x1234 && kept(out, MOFULEKA_PIXEL_BYTES, sizeof out));
+  memset(out, 0x5A, sizeof out);
+  CHECK(mofuleka_gathering_accept(gathering, 2496, another, sizeof another) == MOFULEKA_ACCEPTED);
+  a = mofuleka_gathering_pixel(gathering, 2496, 15, out, 10);
+  CHECK(pixel_refused(a, MOFULEKA_WORD_IN_CONFLICT) && mofuleka_place(a) == 0x4F);
+  CHECK(mofuleka_gathering_pixel(gathering, 2496, 14, out, 10) == MOFULEKA_ACCEPTED);
+}
+
 static void gatherings(void) {
   static const uint8_t last[] = {0x00, 0x05, 0x01, 0x03, 0x3F, 0xAB, 0xCD};
   static const uint8_t beyond[] = {0x00, 0x07, 0x01, 0x03, 0x3F, 0x12, 0x34, 0x56, 0x78};
@@ -239,6 +295,8 @@ int main(void) {
   sizes();
   decoding();
   sums();
+  one_pixel();
+  one_pixel_gathered();
   gatherings();
   camera();
   if (!failed) printf("the C interface answers as declared\n");

@@ -9,7 +9,7 @@ use std::env;
 use std::error::Error;
 use std::fs;
 
-use mofuleka::{AccessPattern, Gathering, Subpage};
+use mofuleka::{AccessPattern, Gathering, Pixel};
 
 /// Thirteen blocks of 64 words each, last one first, the first of them sent twice.
 fn made_up() -> Vec<u8> {
@@ -64,16 +64,14 @@ fn main() -> Result<(), Box<dyn Error>> {
         }
     };
     println!("{calibration:#?}");
-    let offsets: Vec<i16> = calibration.offset_reference_pixels(Subpage::Zero).copied().collect();
-    let alphas: Vec<f32> = calibration.alpha_pixels(Subpage::Zero).copied().collect();
-    let k_tas: Vec<f32> = calibration.k_ta_pixels(Subpage::Zero).copied().collect();
     for pixel in [0, 1, 32, 33, 767] {
+        let Pixel { offset, alpha, k_ta } = calibration.pixel(pixel)?;
         println!(
             "pixel {}: offset {}, alpha {:e}, Kta {}, Kv {}, interleave correction {}",
             pixel,
-            offsets[pixel],
-            alphas[pixel],
-            k_tas[pixel],
+            offset,
+            alpha,
+            k_ta,
             calibration.k_v_pixel(pixel)?,
             calibration.access_pattern_compensation_pixel(pixel, AccessPattern::Interleave)?.unwrap_or(0.0),
         );

@@ -4,6 +4,7 @@ use core::slice;
 
 use crate::camera::{AccessPattern, Mlx90640, Subpage};
 use crate::lent;
+use crate::pixel::Pixel;
 use crate::place;
 use crate::refusal::Refusal;
 use crate::tile::{Corrections, KvPixels, Tile};
@@ -136,6 +137,29 @@ impl Calibration {
     /// The record's bytes, as `docs/INTERFACE.md` lays them out; [`place`](crate::place) has where each field starts.
     pub fn record_bytes(&self) -> &[u8; lent::RECORD_BYTES] {
         &self.record.0
+    }
+
+    /// One pixel out of the tables.
+    ///
+    /// ```
+    /// use mofuleka::{lent, Calibration, Pixel, Subpage};
+    ///
+    /// let mut image = [0u8; lent::IMAGE_BYTES];
+    /// image[2 * 0x21..][..2].copy_from_slice(&0x2000u16.to_be_bytes()); // 0x2421, the alpha average
+    /// let calibration = Calibration::from_data(&image)?;
+    /// let pixel = calibration.pixel(33)?;
+    /// assert_eq!(calibration.alpha_pixels(Subpage::Zero).nth(33), Some(&pixel.alpha));
+    /// assert_eq!(Pixel::from_data(&image, 33)?, pixel);
+    /// # Ok::<(), mofuleka::Refusal>(())
+    /// ```
+    ///
+    /// # Errors
+    /// `PastTheEnd` above 767.
+    pub fn pixel(&self, pixel: usize) -> Result<Pixel, Refusal> {
+        match (self.offset.get(pixel), self.alpha.get(pixel), self.k_ta.get(pixel)) {
+            (Some(&offset), Some(&alpha), Some(&k_ta)) => Ok(Pixel { offset, alpha, k_ta }),
+            _ => Err(Refusal::PAST_THE_END),
+        }
     }
 
     /// Pixel supply voltage constant, `K_Vdd`.

@@ -3,6 +3,7 @@ use core::fmt;
 
 use crate::calibration::Calibration;
 use crate::lent;
+use crate::pixel::Pixel;
 use crate::refusal::Refusal;
 
 /// An EEPROM image on its way: the words that blocks have carried so far.
@@ -132,6 +133,31 @@ impl Gathering {
     /// `SumOutside`.
     pub fn calibration(&self) -> Result<Calibration, Refusal> {
         Calibration::from_gathering(&self.bytes)
+    }
+
+    /// One pixel, as soon as the words that it needs are held; what other words are doesn't count.
+    ///
+    /// ```
+    /// use mofuleka::{Gathering, Pixel, Reason};
+    ///
+    /// let mut gathering = Gathering::new();
+    /// // Words 0x10 to 0x4F, all that the first sixteen pixels need: zero but for the offset average.
+    /// let mut block = [0u8; 133];
+    /// block[..5].copy_from_slice(&[0x00, 131, 1, 0x00, 0x10]);
+    /// block[7..9].copy_from_slice(&0x1234u16.to_be_bytes());
+    /// gathering.accept(&block)?;
+    /// assert_eq!(gathering.pixel(15)?, Pixel { offset: 0x1234, alpha: 0.0, k_ta: 0.0 });
+    ///
+    /// let refusal = gathering.pixel(16).unwrap_err();
+    /// assert_eq!((refusal.reason(), refusal.place()), (Reason::WordMissing, 0x50));
+    /// # Ok::<(), mofuleka::Refusal>(())
+    /// ```
+    ///
+    /// # Errors
+    /// `PastTheEnd` above 767; `WordInConflict` and `WordMissing` for the lowest of the words that the pixel needs;
+    /// then `TermOutside` and `SumOutside` for this pixel.
+    pub fn pixel(&self, pixel: usize) -> Result<Pixel, Refusal> {
+        Pixel::from_gathering(&self.bytes, pixel)
     }
 }
 

@@ -36,6 +36,8 @@ pub const K_TA_TABLE_BYTES: usize = 3072;
 pub const RECORD_BYTES: usize = 122;
 /// The bytes of a gathering: 832 words and 832 marks.
 pub const GATHERING_BYTES: usize = 2496;
+/// The bytes of one pixel: its offset, a signed 16-bit number, then alpha and Kta, floats.
+pub const PIXEL_BYTES: usize = 10;
 
 /// The value of an accepted answer.
 fn taken(answer: u64) -> Result<u64, Refusal> {
@@ -69,8 +71,8 @@ fn thirds(value: u64) -> [u16; 3] {
     })
 }
 
-/// The sizes as the archive gives them: image, offset table, alpha table, Kta table, record, gathering.
-pub fn sizes() -> [usize; 6] {
+/// The sizes as the archive gives them: image, offset table, alpha table, Kta table, record, gathering, pixel.
+pub fn sizes() -> [usize; 7] {
     // SAFETY: these functions take nothing and touch no memory.
     unsafe {
         [
@@ -80,6 +82,7 @@ pub fn sizes() -> [usize; 6] {
             sys::mofuleka_k_ta_table_bytes(),
             sys::mofuleka_record_bytes(),
             sys::mofuleka_gathering_bytes(),
+            sys::mofuleka_pixel_bytes(),
         ]
     }
 }
@@ -111,6 +114,30 @@ pub fn from_data(
             record.len(),
         )
     })
+}
+
+/// Gives one pixel's offset, alpha and Kta out of an image, or a page of one, from the words that this pixel needs.
+///
+/// ```
+/// use mofuleka::lent;
+///
+/// let mut image = [0u8; lent::IMAGE_BYTES];
+/// image[2 * 0x11..][..2].copy_from_slice(&0x1234u16.to_be_bytes()); // 0x2411, the offset average
+/// let mut out = [0x5A; lent::PIXEL_BYTES];
+/// assert_eq!(lent::pixel(&image, 767, &mut out[..9]).unwrap_err().number(), 2);
+/// assert_eq!(out, [0x5A; lent::PIXEL_BYTES]);
+/// lent::pixel(&image, 767, &mut out)?;
+/// assert_eq!(out, [0x12, 0x34, 0, 0, 0, 0, 0, 0, 0, 0]);
+/// # Ok::<(), mofuleka::Refusal>(())
+/// ```
+///
+/// # Errors
+/// `ImageLength`, `PastTheEnd` for a pixel above 767, `ShortSlice` for `out`, then `TermOutside` and `SumOutside` for
+/// this pixel: of its offset, its alpha, its Kta.
+pub fn pixel(image: &[u8], pixel: usize, out: &mut [u8]) -> Result<(), Refusal> {
+    // SAFETY: each pointer is a slice's, with that slice's length; `out`, which is written, is borrowed exclusively and
+    // so does not overlap the image. The pixel may be any.
+    done(unsafe { sys::mofuleka_pixel(image.as_ptr(), image.len(), pixel, out.as_mut_ptr(), out.len()) })
 }
 
 /// Makes the bytes a fresh gathering.
@@ -193,6 +220,19 @@ pub fn gathering_from_data(
             record.as_mut_ptr(),
             record.len(),
         )
+    })
+}
+
+/// Gives one pixel's offset, alpha and Kta as soon as the gathering holds the words that this pixel needs.
+///
+/// # Errors
+/// `PastTheEnd` for a pixel above 767, `ShortSlice` for the gathering or for `out`, `WordInConflict` and `WordMissing`
+/// for the lowest of those words, then `TermOutside` and `SumOutside` for this pixel.
+pub fn gathering_pixel(gathering: &[u8], pixel: usize, out: &mut [u8]) -> Result<(), Refusal> {
+    // SAFETY: each pointer is a slice's, with that slice's length; `out`, which is written, is borrowed exclusively and
+    // so does not overlap the gathering. The pixel may be any.
+    done(unsafe {
+        sys::mofuleka_gathering_pixel(gathering.as_ptr(), gathering.len(), pixel, out.as_mut_ptr(), out.len())
     })
 }
 

@@ -47,6 +47,7 @@ mod gathering;
 // The one module that calls the archive.
 #[allow(unsafe_code)]
 pub mod lent;
+mod pixel;
 pub mod place;
 mod refusal;
 pub mod sys;
@@ -58,6 +59,7 @@ pub use camera::{
 };
 pub use common::{CalibrationData, MelexisCamera};
 pub use gathering::{Gathering, Status, Word};
+pub use pixel::Pixel;
 pub use refusal::{Reason, Refusal, Table};
 pub use tile::{Corrections, KvPixels};
 

@@ -145,6 +145,9 @@ impl fmt::Display for Table {
 }
 
 impl Refusal {
+    /// The refusal of a pixel above 767.
+    pub(crate) const PAST_THE_END: Self = Self { number: Reason::PastTheEnd as u8, table: 0, place: 0 };
+
     /// The refusal that an answer has: its number in the lowest byte, its table in the next one, then its place.
     pub(crate) fn from_answer(answer: u64) -> Option<Self> {
         let [number, table, a, b, c, d, ..] = answer.to_le_bytes();

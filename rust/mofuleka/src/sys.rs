@@ -12,6 +12,7 @@ extern "C" {
     pub fn mofuleka_k_ta_table_bytes() -> usize;
     pub fn mofuleka_record_bytes() -> usize;
     pub fn mofuleka_gathering_bytes() -> usize;
+    pub fn mofuleka_pixel_bytes() -> usize;
 
     pub fn mofuleka_from_data(
         image: *const u8,
@@ -25,6 +26,7 @@ extern "C" {
         record: *mut u8,
         record_len: usize,
     ) -> u64;
+    pub fn mofuleka_pixel(image: *const u8, image_len: usize, pixel: usize, out: *mut u8, out_len: usize) -> u64;
 
     pub fn mofuleka_gathering_fresh(gathering: *mut u8, gathering_len: usize) -> u64;
     pub fn mofuleka_gathering_accept(
@@ -52,6 +54,13 @@ extern "C" {
         k_ta_len: usize,
         record: *mut u8,
         record_len: usize,
+    ) -> u64;
+    pub fn mofuleka_gathering_pixel(
+        gathering: *const u8,
+        gathering_len: usize,
+        pixel: usize,
+        out: *mut u8,
+        out_len: usize,
     ) -> u64;
 
     pub fn mofuleka_pixel_in_subpage(pattern: u32, subpage: u32, pixel: usize) -> u64;

@@ -6,11 +6,11 @@
 use std::collections::HashSet;
 
 use mofuleka::lent::{
-    ALPHA_TABLE_BYTES, GATHERING_BYTES, IMAGE_BYTES, K_TA_TABLE_BYTES, OFFSET_TABLE_BYTES, RECORD_BYTES,
+    ALPHA_TABLE_BYTES, GATHERING_BYTES, IMAGE_BYTES, K_TA_TABLE_BYTES, OFFSET_TABLE_BYTES, PIXEL_BYTES, RECORD_BYTES,
 };
 use mofuleka::{
-    lent, place, sys, AccessPattern, Address, Calibration, Gathering, Mlx90640, RamAddress, Reason, Refusal, Status,
-    Subpage, Table, Word,
+    lent, place, sys, AccessPattern, Address, Calibration, Gathering, Mlx90640, Pixel, RamAddress, Reason, Refusal,
+    Status, Subpage, Table, Word,
 };
 
 const PIXELS: usize = Mlx90640::NUM_PIXELS;
@@ -52,9 +52,14 @@ fn block(first: u16, words: &[u16]) -> Vec<u8> {
     block
 }
 
+/// The words of an image.
+fn words_of(image: &[u8]) -> Vec<u16> {
+    image.chunks_exact(2).map(|b| u16::from_be_bytes([b[0], b[1]])).collect()
+}
+
 /// A gathering that holds every word of an image.
 fn gathered(image: &[u8]) -> Gathering {
-    let words: Vec<u16> = image.chunks_exact(2).map(|b| u16::from_be_bytes([b[0], b[1]])).collect();
+    let words = words_of(image);
     let mut gathering = Gathering::new();
     for first in (0..832).step_by(64) {
         gathering.accept(&block(first as u16, &words[first..first + 64])).unwrap();
@@ -64,11 +69,9 @@ fn gathered(image: &[u8]) -> Gathering {
 
 #[test]
 fn sizes_are_the_archives() {
-    assert_eq!(lent::sizes(), [1664, 1536, 3072, 3072, 122, 2496]);
-    assert_eq!(
-        lent::sizes(),
-        [IMAGE_BYTES, OFFSET_TABLE_BYTES, ALPHA_TABLE_BYTES, K_TA_TABLE_BYTES, RECORD_BYTES, GATHERING_BYTES]
-    );
+    assert_eq!(lent::sizes(), [1664, 1536, 3072, 3072, 122, 2496, 10]);
+    let [offset, alpha, k_ta, record] = FULL;
+    assert_eq!(lent::sizes(), [IMAGE_BYTES, offset, alpha, k_ta, record, GATHERING_BYTES, PIXEL_BYTES]);
 }
 
 #[test]
@@ -455,6 +458,8 @@ fn lengths_of_images() {
             let answer = Calibration::from_data(&long[..len]).map_err(parts);
             let expected = if [IMAGE_BYTES, 2048].contains(&len) { Ok(&whole) } else { Err((1, 0, 0)) };
             assert_eq!(answer.as_ref().map_err(|refusal| *refusal), expected, "{len} bytes");
+            let single = Pixel::from_data(&long[..len], 5).map_err(parts);
+            assert_eq!(single, expected.map(|whole| whole.pixel(5).unwrap()), "a pixel of {len} bytes");
         }
     }
     // Two heads' dumps joined by mistake are no image.
@@ -598,6 +603,152 @@ fn short_and_long_gatherings() {
     assert!(long[GATHERING_BYTES..] == [0x5A; 4]);
     assert_eq!(lent::gathering_status(&long), Ok((831, 0)));
     assert_eq!(lent::gathering_word(&long, 0), Ok((1, 1)));
+}
+
+/// An accepted image in which rows, columns and remainders differ.
+fn varied() -> Vec<u8> {
+    let mut words = vec![(0x2410, 0x4321), (0x2411, 0xFFBB), (0x2420, 0x7654), (0x2421, 0x2F44)];
+    words.extend([(0x2436, 0x5F35), (0x2437, 0x81C7), (0x2438, 0x2363)]);
+    words.extend((0x2412..0x2420).chain(0x2422..0x2430).map(|address| (address, (address * 0x9E37) as u16)));
+    words.extend((0x2440..0x2740).map(|address| (address, (address * 0x6A4F) as u16)));
+    image(&words)
+}
+
+/// The numbers of the words that a pixel needs, rising.
+fn needed(pixel: usize) -> [usize; 11] {
+    let (rows, columns, average) = (pixel / 32 / 4, pixel % 32 / 4, pixel % 2);
+    let [offset, alpha] = [(0x12 + rows, 0x18 + columns), (0x22 + rows, 0x28 + columns)];
+    [0x10, 0x11, offset.0, offset.1, 0x20, 0x21, alpha.0, alpha.1, 0x36 + average, 0x38, 0x40 + pixel]
+}
+
+#[test]
+fn one_pixel_of_an_accepted_image() {
+    let bytes = varied();
+    let mut page = bytes.clone();
+    page.resize(2048, 0xEE);
+    let (whole, full) = (Calibration::from_data(&bytes).unwrap(), gathered(&bytes));
+    let ask = |pixel| {
+        let [image, page] = [&bytes, &page].map(|input| Pixel::from_data(input, pixel));
+        [image, page, full.pixel(pixel), whole.pixel(pixel)]
+    };
+    let offsets = whole.offset_reference_pixels(Subpage::Zero);
+    let floats = whole.alpha_pixels(Subpage::Zero).zip(whole.k_ta_pixels(Subpage::Zero));
+    for (pixel, (offset, (alpha, k_ta))) in offsets.zip(floats).enumerate() {
+        for answer in ask(pixel) {
+            let answer = answer.map(|p| (p.offset, p.alpha.to_bits(), p.k_ta.to_bits()));
+            assert_eq!(answer, Ok((*offset, alpha.to_bits(), k_ta.to_bits())), "pixel {pixel}");
+        }
+    }
+    for past in [768, 65536, usize::MAX] {
+        assert_eq!(ask(past).map(|answer| answer.map_err(parts)), [Err((11, 0, 0)); 4]);
+    }
+}
+
+/// Row 5 alone is at fault, of which the decoder names the first pixel.
+#[test]
+fn one_pixel_of_a_refused_image() {
+    let bytes = image(&[(0x2411, 0x7FFF), (0x2413, 0x0010)]);
+    assert_eq!(parts(Calibration::from_data(&bytes).unwrap_err()), (4, 0, 160));
+    let full = gathered(&bytes);
+    for pixel in 0..PIXELS {
+        let expected = match pixel / 32 {
+            5 => Err((4, 0, pixel)),
+            _ => Ok(Pixel { offset: 32767, alpha: 0.0, k_ta: 0.0 }),
+        };
+        assert_eq!(Pixel::from_data(&bytes, pixel).map_err(parts), expected);
+        assert_eq!(full.pixel(pixel).map_err(parts), expected);
+    }
+}
+
+#[test]
+fn faults_of_one_pixel_in_order() {
+    // In pixel 33 a term of each table is outside 16 bits, and so is each sum. They are cured one after the other.
+    let mut words = vec![(0x2410, 0x000B), (0x2411, 0x7FFF), (0x2420, 0x000B), (0x2421, 0x7FFF)];
+    words.extend([(0x2437, 0x00FF), (0x2438, 0x000E), (0x2440 + 33, 0x4108)]);
+    for (number, table, cure) in [
+        (3, 0, (0x2410, 0x000A)),
+        (4, 0, (0x2411, 0x0000)),
+        (3, 1, (0x2420, 0x000A)),
+        (3, 2, (0x2438, 0x000D)),
+        (4, 2, (0x2437, 0x0000)),
+    ] {
+        let bytes = image(&words);
+        assert_eq!(Pixel::from_data(&bytes, 33).map_err(parts), Err((number, table, 33)));
+        assert_eq!(gathered(&bytes).pixel(33).map_err(parts), Err((number, table, 33)));
+        words.push(cure);
+    }
+    // Alpha's sum is still outside, which is no fault.
+    let alpha = (32767.0 + 16384.0) / 2f32.powi(30);
+    assert_eq!(Pixel::from_data(&image(&words), 33), Ok(Pixel { offset: 16384, alpha, k_ta: -128.0 }));
+}
+
+#[test]
+fn one_pixel_of_a_gathering() {
+    let bytes = varied();
+    let words = words_of(&bytes);
+    for pixel in [0, 33, 383, 767] {
+        let expected = Pixel::from_data(&bytes, pixel).map_err(parts);
+        // The words that it needs come one after the other, and then each once more with another value.
+        let mut gathering = Gathering::new();
+        for word in needed(pixel) {
+            assert_eq!(gathering.pixel(pixel).map_err(parts), Err((10, 0, word)));
+            gathering.accept(&block(word as u16, &[words[word]])).unwrap();
+        }
+        assert_eq!(gathering.pixel(pixel).map_err(parts), expected);
+        for word in needed(pixel).into_iter().rev() {
+            gathering.accept(&block(word as u16, &[!words[word]])).unwrap();
+            assert_eq!(gathering.pixel(pixel).map_err(parts), Err((9, 0, word)));
+        }
+        // Every other word in conflict.
+        let mut others = Gathering::from_bytes(gathered(&bytes).as_bytes()).unwrap();
+        for word in (0..Gathering::WORDS).filter(|word| !needed(pixel).contains(word)) {
+            others.accept(&block(word as u16, &[!words[word]])).unwrap();
+        }
+        assert_eq!(others.status(), Status { missing: 0, in_conflict: 821 });
+        assert_eq!(others.pixel(pixel).map_err(parts), expected);
+    }
+    // A word in conflict is named before a lower one that is missing.
+    let mut both = Gathering::new();
+    both.accept(&block(0x38, &[1])).unwrap();
+    both.accept(&block(0x38, &[2])).unwrap();
+    assert_eq!(both.pixel(0).map_err(parts), Err((9, 0, 0x38)));
+}
+
+#[test]
+fn one_pixel_of_a_stored_gathering() {
+    let bytes = varied();
+    let full = *gathered(&bytes).as_bytes();
+    for (mark, number) in [(0, 10), (2, 9), (3, 9), (255, 9)] {
+        let mut stored = full;
+        stored[2 * Gathering::WORDS + 0x40] = mark;
+        let stored = Gathering::from_bytes(&stored).unwrap();
+        assert_eq!(stored.pixel(0).map_err(parts), Err((number, 0, 0x40)));
+        assert_eq!(stored.pixel(1), Pixel::from_data(&bytes, 1));
+    }
+}
+
+#[test]
+fn slices_of_one_pixel() {
+    let (good, bad) = (varied(), image(&[(0x2438, 0x000F), (0x2440, 0x0002)]));
+    let (full, fresh) = (gathered(&bad), Gathering::new());
+    for len in 0..13 {
+        let is_short = len < PIXEL_BYTES;
+        let unless_short = |number| if is_short { 2 } else { number };
+        let mut out = vec![0x5A; len];
+        let mut of_image = |image: &[u8], pixel| lent::pixel(image, pixel, &mut out).unwrap_err().number();
+        assert_eq!(of_image(&good[..IMAGE_BYTES - 1], 768), 1);
+        assert_eq!(of_image(&good, 768), 11);
+        assert_eq!(of_image(&bad, 0), unless_short(3));
+        let mut of_stored = |bytes: &[u8], pixel| lent::gathering_pixel(bytes, pixel, &mut out).unwrap_err().number();
+        assert_eq!(of_stored(&full.as_bytes()[1..], 768), 11);
+        assert_eq!(of_stored(&full.as_bytes()[1..], 767), 2);
+        assert_eq!(of_stored(fresh.as_bytes(), 767), unless_short(10));
+        assert_eq!(of_stored(full.as_bytes(), 0), unless_short(3));
+        assert!(out.iter().all(|byte| *byte == 0x5A));
+        assert_eq!(lent::pixel(&good, 767, &mut out).is_err(), is_short);
+        assert_eq!(lent::gathering_pixel(full.as_bytes(), 767, &mut out).is_err(), is_short);
+        assert!(out.iter().skip(PIXEL_BYTES).all(|byte| *byte == 0x5A));
+    }
 }
 
 #[test]
@@ -756,6 +907,10 @@ fn answer_words() {
         )
     };
     assert_eq!(answer, 0x0003_0103);
+    // SAFETY: each pointer has its own vector's length, both vectors outlive the call, and they don't overlap.
+    let mut single =
+        |pixel| unsafe { sys::mofuleka_pixel(bad.as_ptr(), bad.len(), pixel, record.as_mut_ptr(), record.len()) };
+    assert_eq!((single(3), single(4)), (0x0003_0103, 0));
 }
 
 #[test]
@@ -820,6 +975,7 @@ fn shared_between_threads() {
     fn shared<T: Send + Sync>() {}
     shared::<Calibration>();
     shared::<Gathering>();
+    shared::<Pixel>();
     shared::<Refusal>();
     shared::<mofuleka::KvPixels<'_>>();
     shared::<mofuleka::Corrections<'_>>();
