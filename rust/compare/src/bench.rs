@@ -10,7 +10,15 @@ use compare::images::{self, Image};
 use compare::judge::{Judge, Release};
 use compare::model;
 use mlx9064x_release::CalibrationData;
-use mofuleka::{lent, Calibration, Gathering, Refusal, Table};
+use mofuleka::{lent, Calibration, Gathering, Pixel, Refusal, Table};
+
+/// What a call that only writes leaves for the sink: a byte that it wrote, or its refusal's number.
+fn left(answer: Result<(), Refusal>, written: u8) -> u64 {
+    match answer {
+        Ok(()) => u64::from(written),
+        Err(refusal) => u64::from(refusal.number()),
+    }
+}
 
 struct Lent {
     offset: [u8; lent::OFFSET_TABLE_BYTES],
@@ -30,18 +38,14 @@ impl Lent {
     }
 
     fn decode(&mut self, image: &[u8]) -> u64 {
-        match lent::from_data(image, &mut self.offset, &mut self.alpha, &mut self.k_ta, &mut self.record) {
-            Ok(()) => u64::from(self.record[0]),
-            Err(refusal) => u64::from(refusal.number()),
-        }
+        let answer = lent::from_data(image, &mut self.offset, &mut self.alpha, &mut self.k_ta, &mut self.record);
+        left(answer, self.record[0])
     }
 
     fn gathered(&mut self, gathering: &[u8]) -> u64 {
-        match lent::gathering_from_data(gathering, &mut self.offset, &mut self.alpha, &mut self.k_ta, &mut self.record)
-        {
-            Ok(()) => u64::from(self.record[0]),
-            Err(refusal) => u64::from(refusal.number()),
-        }
+        let Lent { offset, alpha, k_ta, record } = self;
+        let answer = lent::gathering_from_data(gathering, offset, alpha, k_ta, record);
+        left(answer, self.record[0])
     }
 }
 
@@ -265,6 +269,15 @@ fn gathered<'a>(blocks: impl Iterator<Item = &'a Vec<u8>>) -> Gathering {
     gathering
 }
 
+/// One pixel by itself has the numbers of the tables, out of an image and out of a gathering.
+fn singles_are_the_tables(image: &Image, full: &Gathering) {
+    let whole = Calibration::from_data(image).expect("an accepted image");
+    for pixel in 0..768 {
+        assert_eq!(Pixel::from_data(image, pixel), whole.pixel(pixel));
+        assert_eq!(full.pixel(pixel), whole.pixel(pixel));
+    }
+}
+
 /// The cases that have been timed: name, the crate's best time beside it, its own.
 struct Timed<'a> {
     rounds: usize,
@@ -315,6 +328,25 @@ impl Timed<'_> {
         self.case("decode of a full gathering", &mut |_| l.gathered(full.as_bytes()));
     }
 
+    /// One pixel's offset, alpha and Kta, by themselves.
+    fn singles(&mut self, images: &Images) {
+        let image = &images.lifelike;
+        let full = gathered(blocks_of(image).iter());
+        singles_are_the_tables(image, &full);
+        let refused = Pixel::from_data(&images.k_ta, 767).unwrap_err();
+        assert_eq!((refused.number(), refused.table(), refused.place()), (3, Some(Table::Kta), 767));
+        let mut out = [0; lent::PIXEL_BYTES];
+        self.case("single pixel out of an image", &mut |i| {
+            left(lent::pixel(image, i as usize % 768, &mut out), out[1])
+        });
+        self.case("single pixel, refused at its Kta", &mut |_| left(lent::pixel(&images.k_ta, 767, &mut out), out[1]));
+        self.case("single pixel out of a full gathering", &mut |i| {
+            left(lent::gathering_pixel(full.as_bytes(), i as usize % 768, &mut out), out[1])
+        });
+        let all = |Pixel { offset, alpha, k_ta }| offset as u64 ^ u64::from(alpha.to_bits() ^ k_ta.to_bits());
+        self.case("Pixel::from_data, lifelike", &mut |i| Pixel::from_data(image, i as usize % 768).map_or(0, all));
+    }
+
     fn questions(&mut self, image: &Image) {
         let record = *Calibration::from_data(image).expect("an accepted image").record_bytes();
         let bits =
@@ -354,6 +386,7 @@ fn main() {
     let mut timed = Timed { rounds, base: &images.lifelike, sink: 0, lines: Vec::new() };
     timed.decodings(&images);
     timed.gatherings(&images.lifelike);
+    timed.singles(&images);
     timed.questions(&images.lifelike);
     timed.print();
     // So that no call is without use.

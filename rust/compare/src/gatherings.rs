@@ -1,82 +1,15 @@
-//! Gatherings against a model of sets: for each word, the set of values that accepted blocks have carried.
-use std::collections::BTreeSet;
-
+//! Gatherings against the model of sets (`history`).
 use mofuleka::{lent, Refusal};
 
 use crate::apart::Apart;
 use crate::guarded::{refused_of, Bench, Depth, Guarded, FULL};
+use crate::history::History;
 use crate::images::{self, Numbers};
 use crate::judge::{Judge, Release};
 use crate::leaving;
-use crate::model::{self, refused, Refused};
+use crate::model::{self, refused};
+use crate::pixels;
 use crate::tally::{Held, Tally};
-
-/// A history: what each word was carried with.
-#[derive(Clone)]
-struct History {
-    values: Vec<BTreeSet<u16>>,
-}
-
-impl History {
-    fn new() -> Self {
-        Self { values: vec![BTreeSet::new(); 832] }
-    }
-
-    fn take(&mut self, block: &[u8]) -> Result<(), Refused> {
-        let first = model::block(block)?;
-        for (i, word) in block[5..].chunks_exact(2).enumerate() {
-            self.values[first + i].insert(u16::from_be_bytes([word[0], word[1]]));
-        }
-        Ok(())
-    }
-
-    fn join(&mut self, other: &History) {
-        for (mine, theirs) in self.values.iter_mut().zip(&other.values) {
-            mine.extend(theirs);
-        }
-    }
-
-    fn word(&self, word: usize) -> (u8, u16) {
-        let values = &self.values[word];
-        match values.len() {
-            0 => (0, 0),
-            1 => (1, *values.iter().next().expect("one value")),
-            _ => (2, 0),
-        }
-    }
-
-    fn bytes(&self) -> Vec<u8> {
-        let mut bytes = Vec::with_capacity(2496);
-        for word in 0..832 {
-            bytes.extend_from_slice(&self.word(word).1.to_be_bytes());
-        }
-        for word in 0..832 {
-            bytes.push(self.word(word).0);
-        }
-        bytes
-    }
-
-    fn count(&self, mark: u8) -> usize {
-        (0..832).filter(|word| self.word(*word).0 == mark).count()
-    }
-
-    /// Any bytes, read as a history that gives the same state.
-    fn read(bytes: &[u8]) -> Self {
-        let mut history = Self::new();
-        for word in 0..832 {
-            match bytes[1664 + word] {
-                0 => {}
-                1 => {
-                    history.values[word].insert(u16::from_be_bytes([bytes[2 * word], bytes[2 * word + 1]]));
-                }
-                _ => {
-                    history.values[word].extend(&[0, 1]);
-                }
-            }
-        }
-        history
-    }
-}
 
 /// A gathering's bytes between guards.
 struct Lent {
@@ -89,7 +22,7 @@ impl Lent {
         let mut lent = Self { guarded: Guarded::new(), long };
         let answer = lent::gathering_fresh(lent.guarded.reset(2496 + long, 0x5A));
         tally.same(Held::Sets, || "fresh".to_string(), answer.map_err(refused_of), Ok(()));
-        lent.check(tally, &History::new());
+        lent.check(tally, &History::fresh());
         lent
     }
 
@@ -190,7 +123,7 @@ fn some_block(numbers: &mut Numbers, image: &[u8]) -> Vec<u8> {
 }
 
 /// A state that no history gives: any values beside any marks, half of these from 0 to 3.
-fn any_state(numbers: &mut Numbers) -> [u8; 2496] {
+pub fn any_state(numbers: &mut Numbers) -> [u8; 2496] {
     let mut bytes = [0u8; 2496];
     bytes.iter_mut().for_each(|byte| *byte = numbers.word() as u8);
     bytes[1664..].iter_mut().filter(|mark| **mark & 0x80 == 0).for_each(|mark| *mark &= 3);
@@ -209,7 +142,7 @@ pub fn storm(tally: &mut Tally, bench: &mut Bench, seed: u64) {
     };
     let long = numbers.below(3) as usize;
     let mut gatherings = [Lent::fresh(tally, 0), Lent::fresh(tally, long)];
-    let mut histories = [History::new(), History::new()];
+    let mut histories = [History::fresh(), History::fresh()];
     // Now and then a state that no history gives stands at the start.
     if numbers.below(8) == 0 {
         let bytes = any_state(&mut numbers);
@@ -221,15 +154,29 @@ pub fn storm(tally: &mut Tally, bench: &mut Bench, seed: u64) {
     for step in 0..numbers.below(60) {
         let which = numbers.below(2) as usize;
         let block = some_block(&mut numbers, &image);
-        take(tally, &mut gatherings[which], &mut histories[which], &block, &|| format!("{}: block {}", name(), step));
+        let name = || format!("{}: block {}", name(), step);
+        take(tally, &mut gatherings[which], &mut histories[which], &block, &name);
+        let pixels = some_pixels(&mut numbers, &block);
+        pixels::of_gathering(tally, bench, gatherings[which].bytes(), &histories[which], &pixels, &name);
     }
     let both = merge(tally, &mut gatherings, &histories, &name);
-    decode(tally, bench, &gatherings[0], &both, &name);
+    let all = numbers.below(8) == 0;
+    decode(tally, bench, &gatherings[0], &both, all, &name);
     // Now fill what is missing, and decode a full one that never saw a conflict.
     if numbers.below(2) == 0 {
-        let (full, history) = fill(tally, &mut numbers, &image, &name);
-        decode(tally, bench, &full, &history, &name);
+        let (full, history) = fill(tally, bench, &mut numbers, &image, &name);
+        decode(tally, bench, &full, &history, all, &name);
     }
+}
+
+/// Pixels to ask for once a block was taken: any, and one whose own word the block carries, if there is one.
+fn some_pixels(numbers: &mut Numbers, block: &[u8]) -> Vec<usize> {
+    let mut pixels = vec![numbers.below(768) as usize];
+    if let Ok(first) = model::block(block) {
+        let word = first + numbers.below((block.len() as u64 - 5) / 2) as usize;
+        pixels.extend(word.checked_sub(0x40));
+    }
+    pixels
 }
 
 /// A gathering and the history beside it take a block.
@@ -266,9 +213,15 @@ fn merge(
 }
 
 /// A gathering that takes the thirteen blocks of an image in any order.
-fn fill(tally: &mut Tally, numbers: &mut Numbers, image: &[u8], name: &dyn Fn() -> String) -> (Lent, History) {
+fn fill(
+    tally: &mut Tally,
+    bench: &mut Bench,
+    numbers: &mut Numbers,
+    image: &[u8],
+    name: &dyn Fn() -> String,
+) -> (Lent, History) {
     let mut full = Lent::fresh(tally, 0);
-    let mut history = History::new();
+    let mut history = History::fresh();
     let mut firsts: Vec<usize> = (0..13).map(|block| 64 * block).collect();
     for i in (1..firsts.len()).rev() {
         firsts.swap(i, numbers.below(i as u64 + 1) as usize);
@@ -278,19 +231,27 @@ fn fill(tally: &mut Tally, numbers: &mut Numbers, image: &[u8], name: &dyn Fn() 
         block.extend_from_slice(&image[2 * first..2 * first + 128]);
         let ours = full.with(|bytes| lent::gathering_accept(bytes, &block)).map_err(refused_of);
         tally.same(Held::Sets, name, ours, history.take(&block));
+        let pixels = some_pixels(numbers, &block);
+        pixels::of_gathering(tally, bench, full.bytes(), &history, &pixels, name);
     }
     full.check(tally, &history);
     (full, history)
 }
 
-/// Decodes a gathering: refused where a word is in conflict or missing, else answered as its image is.
-fn decode(tally: &mut Tally, bench: &mut Bench, gathering: &Lent, history: &History, name: &dyn Fn() -> String) {
-    let at = |mark| (0..832).find(|word| history.word(*word).0 == mark).map(|word| word as u64);
+/// Decodes a gathering: refused where a word is in conflict or missing, else answered as its image is. So are its
+/// pixels by themselves, all of them or a few.
+fn decode(
+    tally: &mut Tally,
+    bench: &mut Bench,
+    gathering: &Lent,
+    history: &History,
+    all: bool,
+    name: &dyn Fn() -> String,
+) {
     let image: Vec<u8> = history.bytes()[..1664].to_vec();
-    let (held, expected) = match (at(2), at(0)) {
-        (Some(word), _) => (Held::Sets, Err(Refused { number: 9, table: 0, place: word })),
-        (None, Some(word)) => (Held::Sets, Err(Refused { number: 10, table: 0, place: word })),
-        (None, None) => {
+    let (held, expected) = match history.fault(0..832) {
+        Err(refused) => (Held::Sets, Err(refused)),
+        Ok(()) => {
             tally.image(&image);
             (Held::Walk, model::verdict(&image).map(|_| ()))
         }
@@ -302,8 +263,12 @@ fn decode(tally: &mut Tally, bench: &mut Bench, gathering: &Lent, history: &Hist
     if ours.is_ok() && expected.is_ok() {
         tally.accepted();
         let judge = Release::decode(&image).answer().expect("the original crate takes an accepted image");
-        let depth = Depth { questions: true, cross: false };
+        let depth = Depth { questions: true, cross: false, pixels: all };
         bench.compare(tally, Held::Crate, &judge, &Apart::of(&image), depth, name);
+    }
+    if held == Held::Walk && ours == expected {
+        let source = |pixel: usize, out: &mut [u8]| lent::gathering_pixel(bytes, pixel, out);
+        pixels::compare(tally, bench, &source, &image, expected, all, name);
     }
     // Short tables come after 9 and 10, before 3 and 4.
     let short = [1535, 3072, 3072, 122];

@@ -4,6 +4,7 @@ use mofuleka::{lent, place, Refusal, Table};
 use crate::apart::{Apart, ALPHA_PTAT};
 use crate::judge::{Checked, Judge, Outcome, Release};
 use crate::model::{self, Decoded, Refused};
+use crate::pixels::{self, Single};
 use crate::sums::{self, Wrapped};
 use crate::tally::{Doings, Held, Tally};
 
@@ -151,6 +152,8 @@ pub struct Depth {
     pub questions: bool,
     /// Hold the library to the crate with overflow checks, and the model to the crate's release build, too.
     pub cross: bool,
+    /// Ask for every pixel by itself, not for a few, but where the image's length is refused.
+    pub pixels: bool,
 }
 
 pub fn refused_of(refusal: Refusal) -> Refused {
@@ -163,6 +166,7 @@ pub fn refused_of(refusal: Refusal) -> Refused {
 pub struct Bench {
     image: Vec<u8>,
     pub slices: [Guarded; 4],
+    pub single: Single,
     calls: u64,
     k_v: Vec<u32>,
     corrections: Vec<Option<u32>>,
@@ -286,6 +290,7 @@ impl Bench {
                 count_doings(doings, &Release::decode(image), &Checked::decode(image));
             }
         }
+        pixels::of_image(tally, self, image, expected, depth.pixels, name);
     }
 
     /// An image that was decoded just now, and had to be accepted.

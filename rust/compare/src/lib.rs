@@ -2,10 +2,13 @@
 pub mod apart;
 pub mod gatherings;
 pub mod guarded;
+pub mod history;
 pub mod images;
 pub mod judge;
 pub mod leaving;
 pub mod model;
+pub mod pixel_parts;
+pub mod pixels;
 pub mod report;
 pub mod sample;
 pub mod sums;

@@ -13,7 +13,7 @@ use std::time::Instant;
 
 use compare::guarded::Bench;
 use compare::tally::{Held, Tally};
-use compare::{apart, judge, report, sums};
+use compare::{apart, judge, pixels, report, sums};
 
 use crate::parts::{Job, Plan};
 
@@ -123,6 +123,7 @@ fn main() {
     recorded::run(&mut tally);
     sums::require_all(&mut tally);
     apart::require_nibbles(&mut tally);
+    pixels::require_all(&mut tally);
     report::print(&tally);
     println!("{:.1} s", start.elapsed().as_secs_f64());
     println!("{}", report::last_line(&tally));

@@ -1,12 +1,15 @@
 //! A model of the rules: what must be answered, in wide integers and the plainest form. It shares nothing with the library.
 //!
-//! It decides which refusal must come, and what alpha is where the original crate's sum wraps (`sums`). It is itself compared
-//! with the original crate on every kind of accepted image, and with the datasheet's alpha_ptat (`apart`).
+//! It decides which refusal must come, what alpha is where the original crate's sum wraps (`sums`), and what one pixel
+//! is where there is no table (`pixels`). It is itself compared with the original crate on every kind of accepted
+//! image, and with the datasheet's alpha_ptat (`apart`).
 
 pub const WORDS: usize = 832;
 pub const PIXELS: usize = 768;
 pub const IMAGE: usize = 1664;
 pub const PAGE: usize = 2048;
+/// The bytes of one pixel: its offset, its alpha, its Kta.
+pub const PIXEL: usize = 10;
 
 #[derive(Clone, Copy, Debug, Eq, PartialEq)]
 pub struct Refused {
@@ -119,35 +122,43 @@ fn k_ta(image: &[u8]) -> Table {
     Table { averages, rows: [0; 24], columns: [0; 32], remainder: (3, 1), remainder_scale }
 }
 
-/// What each pixel of a table adds up, in the order of the pixels: its average, its row term, its column term and its
-/// remainder term. The image is one, or a page.
-pub fn parts(image: &[u8], table: usize) -> impl Iterator<Item = [i64; 4]> + '_ {
+/// What a pixel of a table adds up: its average, its row term, its column term and its remainder term.
+fn parts_of(image: &[u8], table: usize) -> impl Fn(usize) -> [i64; 4] + '_ {
     let t = match table {
         OFFSET => laid_out(image, 0x2410, (15, 10)),
         ALPHA => laid_out(image, 0x2420, (9, 4)),
         _ => k_ta(image),
     };
-    (0..PIXELS).map(move |pixel| {
+    move |pixel| {
         let remainder = signed(word(image, 0x2440 + pixel), t.remainder.0, t.remainder.1);
         [t.averages[chess(pixel)], t.rows[pixel / 32], t.columns[pixel % 32], remainder << t.remainder_scale]
-    })
+    }
 }
 
-/// The numerators of the three tables, or the first failure of the walk: in each pixel first all terms, then, but for alpha,
-/// the sum. The image is one, or a page.
+/// The same of each pixel, in the order of the pixels. The image is one, or a page.
+pub fn parts(image: &[u8], table: usize) -> impl Iterator<Item = [i64; 4]> + '_ {
+    (0..PIXELS).map(parts_of(image, table))
+}
+
+/// The sum of what a pixel adds up, or its first failure in a table: first all terms, then, but for alpha, the sum.
+fn sum_of(table: usize, pixel: usize, [average, row, column, remainder]: [i64; 4]) -> Result<i64, Refused> {
+    let fail = |number| Err(Refused { number, table: table as u8, place: pixel as u64 });
+    if !fits(row) || !fits(column) || !fits(remainder) {
+        return fail(3);
+    }
+    let sum = average + row + column + remainder;
+    if table != ALPHA && !fits(sum) {
+        return fail(4);
+    }
+    Ok(sum)
+}
+
+/// The numerators of the three tables, or the first failure of the walk. The image is one, or a page.
 pub fn walk(image: &[u8]) -> Result<[[i64; PIXELS]; 3], Refused> {
     let mut tables = [[0; PIXELS]; 3];
     for table in [OFFSET, ALPHA, K_TA] {
-        for (pixel, [average, row, column, remainder]) in parts(image, table).enumerate() {
-            let fail = |number| Err(Refused { number, table: table as u8, place: pixel as u64 });
-            if !fits(row) || !fits(column) || !fits(remainder) {
-                return fail(3);
-            }
-            let sum = average + row + column + remainder;
-            if table != ALPHA && !fits(sum) {
-                return fail(4);
-            }
-            tables[table][pixel] = sum;
+        for (pixel, parts) in parts(image, table).enumerate() {
+            tables[table][pixel] = sum_of(table, pixel, parts)?;
         }
     }
     Ok(tables)
@@ -253,6 +264,30 @@ pub fn decode(image: &[u8]) -> Result<Decoded, Refused> {
         alpha: alpha.map(|sum| over(sum, alpha_scale(image))),
         k_ta: k_ta.map(|sum| over(sum, k_ta_scale(image))),
     })
+}
+
+/// What a pixel gets by itself: its bytes, or the first failure of its own. The image is one, or a page.
+pub fn single(image: &[u8]) -> impl Fn(usize) -> Result<[u8; PIXEL], Refused> + '_ {
+    let [offset, alpha, k_ta] = [OFFSET, ALPHA, K_TA].map(|table| parts_of(image, table));
+    move |pixel| {
+        let offset = sum_of(OFFSET, pixel, offset(pixel))?;
+        let alpha = sum_of(ALPHA, pixel, alpha(pixel))?;
+        let k_ta = sum_of(K_TA, pixel, k_ta(pixel))?;
+        let mut bytes = [0; PIXEL];
+        bytes[..2].copy_from_slice(&(offset as i16).to_be_bytes());
+        bytes[2..6].copy_from_slice(&over(alpha, alpha_scale(image)).to_be_bytes());
+        bytes[6..].copy_from_slice(&over(k_ta, k_ta_scale(image)).to_be_bytes());
+        Ok(bytes)
+    }
+}
+
+/// The words that a pixel needs, by their numbers, rising; four rows, four columns and two averages of Kta share one.
+pub fn needed(pixel: usize) -> [usize; 11] {
+    let (row, column) = (pixel / 32, pixel % 32);
+    let [offset_row, offset_column] = [0x12 + row / 4, 0x18 + column / 4];
+    let [alpha_row, alpha_column] = [0x22 + row / 4, 0x28 + column / 4];
+    let k_ta = 0x36 + column % 2;
+    [0x10, 0x11, offset_row, offset_column, 0x20, 0x21, alpha_row, alpha_column, k_ta, 0x38, 0x40 + pixel]
 }
 
 /// What is wrong with a block, or its first word's number.

@@ -4,6 +4,7 @@ use compare::guarded::{Bench, Depth, FULL};
 use compare::images::{self, Image, Numbers};
 use compare::leaving;
 use compare::model;
+use compare::pixel_parts;
 use compare::tally::{Held, Tally};
 
 use crate::questions;
@@ -46,6 +47,7 @@ pub fn jobs(plan: Plan) -> Vec<Job> {
     jobs.push(Box::new(move |tally, _| questions::over_records(tally, seed)));
     jobs.push(Box::new(|tally, _| questions::camera(tally)));
     storms(plan, &mut jobs);
+    one_pixel(plan, &mut jobs);
     jobs
 }
 
@@ -65,7 +67,7 @@ fn every_word(plan: Plan, jobs: &mut Vec<Job>) {
                 let mut image = base();
                 for value in plan.values(address as u64) {
                     images::set(&mut image, address, value as u16);
-                    let depth = Depth { questions: true, cross: value % 16 == 0 };
+                    let depth = Depth { questions: true, cross: value % 16 == 0, pixels: value % 256 == 0 };
                     bench.image(tally, &image, depth, &|| format!("{:#06X} = {:#06X}", address, value));
                 }
             }));
@@ -81,7 +83,8 @@ fn nibbles(tally: &mut Tally, bench: &mut Bench) {
             let mut image = base();
             let word = nibble << 12 | images::get(&image, 0x2410) & 0x0FFF;
             images::set(&mut image, 0x2410, word);
-            bench.image(tally, &image, Depth { questions: false, cross: true }, &|| format!("0x2410 = {:#06X}", word));
+            let depth = Depth { questions: false, cross: true, pixels: true };
+            bench.image(tally, &image, depth, &|| format!("0x2410 = {:#06X}", word));
         }
     }
 }
@@ -111,7 +114,7 @@ fn pixel_words(plan: Plan, jobs: &mut Vec<Job>) {
                 }
                 for value in plan.values((number * 1000 + pixel) as u64) {
                     images::set(&mut image, 0x2440 + pixel, value as u16);
-                    let depth = Depth { questions: false, cross: value % 64 == 0 };
+                    let depth = Depth { questions: false, cross: value % 64 == 0, pixels: value % 256 == 0 };
                     bench.image(tally, &image, depth, &|| {
                         format!("scales {}, pixel {} = {:#06X}", number, pixel, value)
                     });
@@ -140,7 +143,7 @@ fn random(plan: Plan, jobs: &mut Vec<Job>) {
                 for i in first..last {
                     let seed = plan.seed ^ ((number as u64 + 1) << 48) ^ i;
                     let image = make(&mut Numbers::new(seed));
-                    let depth = Depth { questions: i % 4 == 0, cross: i % 8 == 0 };
+                    let depth = Depth { questions: i % 4 == 0, cross: i % 8 == 0, pixels: i % 16 == 0 };
                     bench.image(tally, &image, depth, &|| format!("seed {:#x}", seed));
                 }
             }));
@@ -158,7 +161,7 @@ fn leaving(plan: Plan, jobs: &mut Vec<Job>) {
             for i in first..last {
                 let seed = plan.seed ^ (0x5C << 48) ^ i;
                 let image = leaving::in_turn(&mut Numbers::new(seed), i);
-                let depth = Depth { questions: i % 4 == 0, cross: i % 8 == 0 };
+                let depth = Depth { questions: i % 4 == 0, cross: i % 8 == 0, pixels: i % 16 == 0 };
                 bench.image(tally, &image, depth, &|| format!("seed {:#x}, pair {}", seed, i % leaving::PAIRS));
             }
         }));
@@ -182,7 +185,7 @@ fn lengths(tally: &mut Tally, bench: &mut Bench, seed: u64) {
             image.resize(1664.max(len), 0);
             image[1664..].iter_mut().for_each(|byte| *byte = numbers.word() as u8);
             image.truncate(len);
-            let depth = Depth { questions: false, cross: len % 8 == 0 };
+            let depth = Depth { questions: false, cross: len % 8 == 0, pixels: true };
             bench.image(tally, &image, depth, &|| format!("length {}", len));
         }
     }
@@ -190,7 +193,7 @@ fn lengths(tally: &mut Tally, bench: &mut Bench, seed: u64) {
 
 /// Two inputs that must get the same bytes in every slice, and everything that is compared of an image besides.
 fn alike(tally: &mut Tally, bench: &mut Bench, first: &[u8], second: &[u8], name: impl Fn() -> String) {
-    let depth = Depth { questions: true, cross: true };
+    let depth = Depth { questions: true, cross: true, pixels: true };
     bench.image(tally, first, depth, &name);
     let before: Vec<Vec<u8>> = bench.slices.iter().map(|slice| slice.slice().to_vec()).collect();
     bench.image(tally, second, depth, &name);
@@ -212,7 +215,7 @@ fn pages(tally: &mut Tally, bench: &mut Bench, seed: u64) {
             page[model::IMAGE..].iter_mut().for_each(|byte| *byte = numbers.word() as u8);
         }
         alike(tally, bench, &image, &page, name);
-        bench.image(tally, &joined, Depth { questions: true, cross: true }, &name);
+        bench.image(tally, &joined, Depth { questions: true, cross: true, pixels: true }, &name);
     }
 }
 
@@ -249,6 +252,29 @@ fn storms(plan: Plan, jobs: &mut Vec<Job>) {
             for i in first..last {
                 gatherings::storm(tally, bench, plan.seed ^ (0x77 << 48) ^ i);
             }
+        }));
+    }
+}
+
+/// One pixel by itself: the words that it needs, states that no history gives, and refusals in their order.
+fn one_pixel(plan: Plan, jobs: &mut Vec<Job>) {
+    let count = 200 + plan.count / 20;
+    for first in (0..count).step_by(100) {
+        let last = count.min(first + 100);
+        jobs.push(Box::new(move |tally, bench| {
+            for i in first..last {
+                tally.part("one pixel, the words it needs");
+                pixel_parts::words(tally, bench, plan.seed ^ (0x78 << 48) ^ i);
+                tally.part("one pixel, any gathering");
+                pixel_parts::any_states(tally, bench, plan.seed ^ (0x79 << 48) ^ i);
+            }
+        }));
+    }
+    let refusals: [fn(&mut Tally, &mut Bench); 2] = [pixel_parts::image_refusals, pixel_parts::gathering_refusals];
+    for refused in refusals {
+        jobs.push(Box::new(move |tally, bench| {
+            tally.part("one pixel, refusals in order");
+            refused(tally, bench);
         }));
     }
 }

@@ -10,7 +10,7 @@ pub fn run(tally: &mut Tally) {
     tally.part("the recorded sample");
     let mut bench = Bench::new();
     for (i, image) in sample::images().iter().enumerate() {
-        bench.image(tally, image, Depth { questions: true, cross: true }, &|| format!("entry {}", i));
+        bench.image(tally, image, Depth { questions: true, cross: true, pixels: true }, &|| format!("entry {}", i));
     }
     for two in sample::two_faults() {
         let [(first, named), (second, then)] = two.answers();

@@ -4,6 +4,7 @@ use std::collections::BTreeMap;
 use std::fmt::Debug;
 use std::hash::{Hash, Hasher};
 
+use crate::pixels::{KINDS, NEEDED};
 use crate::sums::Way;
 
 /// What a comparison holds its subject to.
@@ -14,6 +15,8 @@ pub enum Held {
     Datasheet,
     Walk,
     Wide,
+    Decoder,
+    Pixels,
     Sets,
     Rules,
     Judges,
@@ -23,10 +26,19 @@ pub enum Held {
 
 impl Held {
     /// Comparisons of the library's answers, those with the original crate first.
-    pub const ANSWERS: [Held; 7] =
-        [Held::Crate, Held::Checked, Held::Datasheet, Held::Walk, Held::Wide, Held::Sets, Held::Rules];
+    pub const ANSWERS: [Held; 9] = [
+        Held::Crate,
+        Held::Checked,
+        Held::Datasheet,
+        Held::Walk,
+        Held::Wide,
+        Held::Decoder,
+        Held::Pixels,
+        Held::Sets,
+        Held::Rules,
+    ];
     /// Comparisons with a model, where the original crate has no answer that counts.
-    pub const MODELS: [Held; 4] = [Held::Walk, Held::Wide, Held::Sets, Held::Rules];
+    pub const MODELS: [Held; 5] = [Held::Walk, Held::Wide, Held::Pixels, Held::Sets, Held::Rules];
     /// Comparisons that are not about an answer of the library.
     pub const BESIDE: [Held; 3] = [Held::Judges, Held::Files, Held::Bytes];
 
@@ -41,6 +53,8 @@ impl Held {
             Held::Datasheet => "sheet",
             Held::Walk => "walk",
             Held::Wide => "wide",
+            Held::Decoder => "decoder",
+            Held::Pixels => "pixels",
             Held::Sets => "sets",
             Held::Rules => "rules",
             Held::Judges => "judges",
@@ -56,6 +70,8 @@ impl Held {
             Held::Datasheet => "the datasheet's formula: alpha_ptat, where the crate has whole steps",
             Held::Walk => "model in wide integers: an image is accepted, or its refusal, table and pixel",
             Held::Wide => "model in wide integers: alpha, where the crate's sum wraps",
+            Held::Decoder => "the library's own decoder: one pixel where it accepts, and the one that it names",
+            Held::Pixels => "model in wide integers: one pixel, where there is no table to hold it to",
             Held::Sets => "model of sets: words, marks, counts and refusals of gatherings",
             Held::Rules => "model of the interface's rules: out of range, too short, unread, any record",
             Held::Judges => "not the library: the model and the crate's two builds, against each other",
@@ -81,7 +97,7 @@ impl Count {
 /// One part of the run: images of one kind, or questions of one kind.
 #[derive(Clone, Default)]
 pub struct Part {
-    counts: [Count; 10],
+    counts: [Count; 12],
     /// A hash of each image that was compared.
     images: Vec<u64>,
     pub accepted: u64,
@@ -145,6 +161,10 @@ pub struct Tally {
     pub ways: [[u64; Way::COUNT]; 2],
     /// How many records and listings were compared, by the nibble of their alpha_ptat.
     pub nibbles: [u64; 16],
+    /// What pixels were given by themselves, by `KINDS`.
+    pub singles: [u64; KINDS.len()],
+    /// How often another value of a word that a pixel needs changed its answer, by `NEEDED`.
+    pub needed: [u64; NEEDED.len()],
     /// The first few differences, in words.
     pub shown: Vec<String>,
     /// What this run did not compare, and why.
@@ -245,9 +265,9 @@ impl Tally {
         for (mine, theirs) in self.ways.iter_mut().flatten().zip(other.ways.iter().flatten()) {
             *mine += theirs;
         }
-        for (mine, theirs) in self.nibbles.iter_mut().zip(other.nibbles) {
-            *mine += theirs;
-        }
+        let mine = self.nibbles.iter_mut().chain(&mut self.singles).chain(&mut self.needed);
+        let theirs = other.nibbles.iter().chain(&other.singles).chain(&other.needed);
+        mine.zip(theirs).for_each(|(mine, theirs)| *mine += theirs);
         self.shown.extend(other.shown);
         self.shown.truncate(SHOWN);
         self.left_out.extend(other.left_out);
