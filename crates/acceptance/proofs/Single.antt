@@ -10,7 +10,6 @@ use native.Mathlib.Omega.{arith}
 use borrow.Author.Tests.{eq-eqb, le-ltb, lt-ltb}
 use lib.Dec.{eqb}
 use lib.IntN.{pos}
-use lib.Ieee.{Float}
 use lib.ListN.{length, getD, drop, List·getD-append}
 use contract.Lifetimes.{Lfts}
 use borrow.Fn.Kinds.{Dens}

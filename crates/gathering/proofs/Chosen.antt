@@ -17,15 +17,15 @@ use Rattle.util.proofs.Bytes.{word-of-bytes}
 use Rattle.util.proofs.Filled.{tab-at}
 use Rattle.util.proofs.Lists.{lowest-ext}
 use Rattle.pixel.specs.Needed.{neededBy, among}
-use Rattle.pixel.specs.Answer.{pixelFault, refusedWith, answered}
+use Rattle.pixel.specs.Answer.{pixelFault, answered}
 use Rattle.pixel.specs.Inner.From.{answerFrom}
 use Rattle.pixel.specs.Inner.Places.{Rising, Below}
 use Rattle.pixel.proofs.Rising.{first-lowest, none-lowest}
 use Rattle.pixel.proofs.Chosen.{chosen}
 use Rattle.pixel.proofs.Sameness.{needed-words, from-needed, needed-rise, needed-below}
 use Rattle.pixel.proofs.Exactly.{refused-answer}
-use Rattle.gathering.specs.Cells.{cellOf, markOf, isMissing, inConflict}
-use Rattle.gathering.specs.State.{cellAt, faultFrom}
+use Rattle.gathering.specs.Cells.{cellOf, markOf}
+use Rattle.gathering.specs.State.{faultFrom}
 use Rattle.gathering.specs.Decoding.{gatheredWords}
 use Rattle.gathering.specs.Pixels.{faultAmong}
 use Rattle.gathering.specs.Inner.Marks.{markedAs}

@@ -4,11 +4,10 @@
 use Prim.Native.Nat.{ℕ, _<_}
 use mathlib.Core.Path.{_≡_, refl, sym, ap, ap₂, subst, _∙_}
 use mathlib.Core.Logic.{_↔_, Iff·trans}
-use mathlib.Core.Bool.{Bool, true, false, cond, true≢false, false≢true, _&&_}
+use mathlib.Core.Bool.{Bool, true, false, false≢true, _&&_}
 use mathlib.Core.List.{List, map}
 use native.Mathlib.Omega.{arith}
-use borrow.Author.Tests.{lt-ltb, eq-eqb}
-use lib.Dec.{ltb}
+use borrow.Author.Tests.{lt-ltb}
 use lib.ListN.{length, getD}
 use Rattle.refusal.specs.Code.{orElse}
 use Rattle.refusal.specs.declared.Refusal.{Refusal}

@@ -1,11 +1,11 @@
 -- The single answers and the decoder's: the walk goes over the same steps, table by table, so that it finds nothing exactly where no pixel has a fault, and what it finds first
 -- is the first fault of the pixel that it names.
 -- Assumes nothing.
-use Prim.Native.Nat.{ℕ, zero, suc, _+_, _<_}
-use mathlib.Core.Path.{_≡_, refl, sym, ap, subst, _∙_}
+use Prim.Native.Nat.{ℕ, _<_}
+use mathlib.Core.Path.{_≡_, refl, sym, ap, _∙_}
 use mathlib.Core.Logic.{_↔_}
-use mathlib.Core.Bool.{Bool, true, false, cond}
-use mathlib.Core.List.{List, [], _∷_, _++_}
+use mathlib.Core.Bool.{Bool, true, false}
+use mathlib.Core.List.{_++_}
 use native.Mathlib.Nat.{zero-add}
 use Rattle.refusal.specs.Code.{codeOf, acceptedBy, orElse}
 use Rattle.refusal.specs.declared.Table.{Table}
@@ -14,7 +14,7 @@ use Rattle.refusal.specs.declared.Refusal.{Refusal}
 use Rattle.refusal.specs.declared.Refusal.the-variants.{None}
 use Rattle.refusal.proofs.Apart.{accepted-none}
 use Rattle.refusal.proofs.Order.{or-passed, or-refused}
-use Rattle.steps.specs.Steps.{Step, firstOutside, stepsFrom}
+use Rattle.steps.specs.Steps.{firstOutside}
 use Rattle.steps.proofs.Order.{first-append}
 use Rattle.steps.proofs.Meaning.{none-append, none-joined, pixel-none, found-pixel}
 use Rattle.walk.specs.Walk.{pixelSteps, tableSteps, walk}

@@ -1,6 +1,5 @@
 -- `gathering::marks_at` meets its contract: each turn takes the next mark.
 -- Assumes nothing.
-use borrow.Author.Needs.{needs}
 use native.Mathlib.Omega.{arith}
 use mathlib.Core.Path.{_≡_, refl, ap, _∙_}
 use mathlib.Core.List.{List, _++_}

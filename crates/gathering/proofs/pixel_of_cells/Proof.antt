@@ -7,10 +7,9 @@ use Prim.Native.Nat.{ℕ}
 use borrow.Author.Needs.{needs}
 use denote.Ref.{now}
 use Rattle.refusal.specs.Code.{acceptedBy}
-use Rattle.refusal.specs.declared.Refusal.{Refusal}
 use Rattle.pixel.specs.Answer.{refusedWith}
 use Rattle.gathering.specs.State.{faultFrom}
-use Rattle.gathering.specs.Inner.Chosen.{firstMarked, cellsFault, cellsTold}
+use Rattle.gathering.specs.Inner.Chosen.{firstMarked, cellsFault}
 use Rattle.gathering.proofs.pixel_of_cells.Statement.{statement}
 use Rattle.gathering.proofs.pixel_of_cells.Tie as tie
 

@@ -7,7 +7,6 @@ use lib.IntN.{ℤ}
 use Rattle.exact.specs.Dyadic.{dyadic}
 use Rattle.refusal.specs.Code.{acceptedBy}
 use Rattle.refusal.specs.declared.Refusal.{Refusal}
-use Rattle.refusal.specs.declared.Table.{Table}
 use Rattle.refusal.specs.declared.Table.the-variants.{Offset, Alpha, Kta}
 use Rattle.util.specs.Words.{listed, field}
 use Rattle.steps.specs.Steps.{firstOutside}
