@@ -1,5 +1,8 @@
 // Explains the numbers of a table on standard input, a row for each, and prints each row with its explanation, whole. The gate holds every line to the stored output
 // (stdout); the table's head says what a row can ask.
+
+#![tactic(auto)]
+
 use asking::Asked;
 use libc::{STDIN_FILENO, STDOUT_FILENO};
 use script::{after, before, front, image_of, letter, next_row};

@@ -1,10 +1,13 @@
 // What a person types to ask for a number: a table by its name or its number, and a pixel by its number or by its row and column, as `5,0`.
+
+#![tactic(auto)]
+
 ghost use Rattle.std.specs.Prelude.{◌≤◌};
 
 use script::{after, before};
 
 // A number, where the text was one.
-#[derive(Drop)]
+#[derive(Clone, Copy)]
 pub struct Asked {
     pub good: bool,
     pub value: u32,

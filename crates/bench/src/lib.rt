@@ -1,4 +1,7 @@
 // The decoder itself behind a C name, for the benchmark alone: it takes no page, and the tables are in the machine's own order, as the library writes them.
+
+#![tactic(auto)]
+
 ghost use Rattle.std.specs.Prelude.{◌≡◌, eqb};
 ghost use Rattle.refusal.specs.Code.{code_of};
 ghost use Rattle.util.specs.Lists.{tab};

@@ -1,4 +1,7 @@
 // Blocks, as they come from a head: up to 64 words of an image with the number of the first one. What is not a block is refused.
+
+#![tactic(auto)]
+
 ghost use Rattle.std.specs.Prelude.{◌≡◌};
 ghost use Rattle.blocks.specs.Blocks.{read_block};
 ghost use Rattle.blocks.specs.Inner.Inside.{Inside};
@@ -6,7 +9,7 @@ ghost use Rattle.blocks.specs.Inner.Inside.{Inside};
 use refusal::Refusal;
 
 // A block's words, or why it is refused.
-#[derive(Drop)]
+#[derive(Clone, Copy)]
 pub enum Block {
     Words { first: usize, count: usize },
     Refused(Refusal),

@@ -8,7 +8,7 @@ use mofuleka::{mofuleka_from_data, mofuleka_gathering_from_data};
 use script::{front, number};
 
 // The decoder's answer, and the four slices after it.
-#[derive(Drop)]
+#[derive(Clone, Copy)]
 struct Filled {
     word: u64,
     offset: [u8; 1536],

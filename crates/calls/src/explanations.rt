@@ -8,7 +8,7 @@ use script::{front, number};
 use util::word;
 
 // The answer, and the bytes after it.
-#[derive(Drop)]
+#[derive(Clone, Copy)]
 struct Told {
     word: u64,
     out: [u8; 76],

@@ -5,7 +5,7 @@ use mofuleka::mofuleka_from_data;
 use script::{front, image_of, letter, number};
 
 // An image and its length, the record of an image, and two gatherings, the first a byte short where its number is not 0.
-#[derive(Drop)]
+#[derive(Clone, Copy)]
 pub struct Lent {
     pub image: [u8; 2496],
     pub length: usize,

@@ -1,4 +1,7 @@
 // The decoder, after the crate's eeprom.rs: an image's 1,664 bytes into a record and three lent tables, or a refusal.
+
+#![tactic(auto)]
+
 ghost use Rattle.std.specs.Prelude.{◌≡◌, ℕ, ◌≤◌, ◌<◌, length};
 ghost use Rattle.util.specs.Words.{listed};
 ghost use Rattle.record.specs.Fields.{blank_record};
@@ -16,7 +19,7 @@ use tables::{fill_alpha, fill_k_ta, fill_offset};
 use walk::first_refusal;
 
 // A refusal, and the record beside it: blank unless the call was accepted.
-#[derive(Drop)]
+#[derive(Clone, Copy)]
 pub struct Decoded {
     pub refusal: Refusal,
     pub record: Record,

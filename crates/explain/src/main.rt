@@ -1,5 +1,8 @@
 // explain TABLE PIXEL: reads an image on standard input and prints where a number of it comes from, or why the image is refused; or says on standard error why it
 // can't.
+
+#![tactic(auto)]
+
 ghost use Rattle.std.specs.Prelude.{◌≡◌, ◌<◌, length, take, drop};
 ghost use Rattle.io.specs.Counts.{IsPrefixLen};
 ghost use Rattle.explanation.specs.Explanation.{explanation_of};

@@ -1,5 +1,8 @@
 // Where a number of a table comes from: the fields of one pixel, their scales and terms and each running sum, up to the entry; or, of an image that the
 // decoder refuses, up to the number that it refuses.
+
+#![tactic(auto)]
+
 mod cut;
 mod fields;
 mod found;
@@ -19,7 +22,7 @@ use walk::first_refusal;
 
 // A field: the word that it stands in, its highest and its lowest bit there, those bits, the number that they are in two's complement, and that number times
 // 2 to the power of its scale.
-#[derive(Drop)]
+#[derive(Clone, Copy)]
 pub struct Part {
     pub address: u16,
     pub high: u8,
@@ -31,7 +34,7 @@ pub struct Part {
 }
 
 // What an entry is made of, in the order in which it is summed.
-#[derive(Drop)]
+#[derive(Clone, Copy)]
 pub struct Parts {
     pub average: Part,
     pub row: Part,
@@ -43,7 +46,7 @@ pub struct Parts {
 }
 
 // What 16 bits don't hold: nothing, a term, or the final sum.
-#[derive(Drop)]
+#[derive(Clone, Copy)]
 pub enum Failure {
     Nothing,
     Row,
@@ -53,7 +56,7 @@ pub enum Failure {
 }
 
 // An entry: none beside a failure, a whole number in the offset table, a fraction in the others.
-#[derive(Drop)]
+#[derive(Clone, Copy)]
 pub enum Entry {
     Absent,
     Whole(i16),
@@ -62,7 +65,7 @@ pub enum Entry {
 
 // An answer. `refusal` is the call's own; `found` is what the decoder answers for the image: nothing, 3 or 4. `table` and `pixel` are those asked for or, beside a
 // 3 or a 4, those that it names. What comes after a failure is blank.
-#[derive(Drop)]
+#[derive(Clone, Copy)]
 pub struct Explanation {
     pub refusal: Refusal,
     pub found: Refusal,

@@ -2,7 +2,7 @@
 // out stays and may be handed out again.
 ghost use Rattle.std.specs.Prelude.{◌<◌};
 
-#[derive(Drop)]
+#[derive(Clone, Copy)]
 pub struct Sky {
     slots: [u64; 8],
     random: u64,

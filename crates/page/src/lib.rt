@@ -1,5 +1,8 @@
 // The page rule: older head firmware sends a page of 2,048 bytes, whose first 1,664 are the image. caldump and the C interface take an image by this rule; whoever stands below
 // them knows images alone.
+
+#![tactic(auto)]
+
 ghost use Rattle.std.specs.Prelude.{◌≡◌, ◌≤◌};
 ghost use Rattle.page.specs.Page.{image_length};
 

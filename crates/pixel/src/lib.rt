@@ -1,5 +1,8 @@
 // One pixel's offset, alpha and Kta, from the eleven words that they need and no others: what a viewer shows under the cursor while the tables are still being
 // built.
+
+#![tactic(auto)]
+
 ghost use Rattle.std.specs.Prelude.{◌≡◌, true, ◌^◌, ◌<◌, nat_abs};
 ghost use Rattle.refusal.specs.Code.{accepted_by};
 ghost use Rattle.util.specs.Words.{word_at, listed};
@@ -20,7 +23,7 @@ use util::{u16_from_bits, word};
 use walk::{PixelTerms, fault_of, k_ta_average_word, k_ta_terms, shared_terms};
 
 // A refusal, and the numbers beside it: positive zero unless the call was accepted.
-#[derive(Drop)]
+#[derive(Clone, Copy)]
 pub struct PixelAnswer {
     pub refusal: Refusal,
     pub offset: i16,

@@ -8,7 +8,7 @@ use refusal::{Code, code_of};
 use script::{bytes_of, front};
 
 // The tables have room for two entries more than the decoder fills.
-#[derive(Drop)]
+#[derive(Clone, Copy)]
 pub struct Held {
     pub image: [u8; 2496],
     pub length: usize,

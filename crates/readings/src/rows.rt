@@ -10,7 +10,7 @@ use crate::table_questions::of_tables;
 use script::{after, before, front, image_of, letter, next_row, number};
 
 // What is held, and what was read so far.
-#[derive(Drop)]
+#[derive(Clone, Copy)]
 struct Run {
     held: Held,
     report: Report,

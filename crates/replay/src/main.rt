@@ -1,6 +1,9 @@
 // Holds the library to a fixed sample of the original crate's answers, which stands on standard input. Where a sum of alpha wraps in the crate, the sample has the
 // exact number in its place. alpha_ptat is the crate's throughout, in whole steps, and is raised here to the datasheet's quarter steps, which the library has
 // (docs/DIFFERENCES.md, section 4). rust/compare/src/sample.rs has the sample's form, and rust/compare/record-sample makes it.
+
+#![tactic(auto)]
+
 ghost use Rattle.std.specs.Prelude.{◌<◌, ◌≤◌};
 
 use libc::{STDIN_FILENO, STDOUT_FILENO};
@@ -13,7 +16,7 @@ const STEPS_BYTE: usize = 18;
 const NIBBLE_BYTE: usize = 32;
 
 // What became of one entry of the sample.
-#[derive(Drop)]
+#[derive(Clone, Copy)]
 enum Outcome {
     // The sample has ended.
     End,
@@ -144,7 +147,7 @@ fn replay_entry() -> Outcome {
 }
 
 // How many entries went which way so far, and whether the sample has come to its end.
-#[derive(Drop)]
+#[derive(Clone, Copy)]
 struct Tally {
     accepted: u64,
     in_quarters: u64,

@@ -1,5 +1,8 @@
 // A program's table on standard input, row by row. A row has places of five bytes: a word of up to four letters, of which the first counts, or a
 // number of four hexadecimal digits, and a space. Texts may follow, each behind a bar.
+
+#![tactic(auto)]
+
 ghost use Rattle.std.specs.Prelude.{◌≤◌, ◌<◌, length};
 
 // The first n bytes, or all where there are no more.
@@ -119,7 +122,7 @@ pub fn image_of(row: &[u8]) -> [u8; 2496] {
 }
 
 // Some bytes, of which the first count.
-#[derive(Drop)]
+#[derive(Clone, Copy)]
 pub struct Bytes {
     pub bytes: [u8; 16],
     pub count: usize,

@@ -1,4 +1,7 @@
 // The first number of a pixel that 16 bits don't hold: its terms come first, and then its sum. No camera's own list of steps is here.
+
+#![tactic(auto)]
+
 ghost use Rattle.std.specs.Prelude.{◌≡◌, [], ◌∷◌};
 ghost use Rattle.steps.specs.Steps.{first_outside};
 ghost use Rattle.steps.specs.Steps as steps;

@@ -3,7 +3,7 @@ use crate::model::{Model, mark_from, value_from};
 use gathering::Gathering;
 
 // How many words are missing and in conflict, the first of each, 832 where there is none, and how many words are apart.
-#[derive(Drop)]
+#[derive(Clone, Copy)]
 pub struct Tally {
     pub missing: usize,
     pub in_conflict: usize,

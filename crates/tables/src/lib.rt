@@ -1,4 +1,7 @@
 // The three lent tables, written from an image's words in which the walk has found no fault.
+
+#![tactic(auto)]
+
 ghost use Rattle.std.specs.Prelude.{◌≡◌, true, ℕ, ◌+◌, ◌*◌, ◌/◌, ◌%◌, ◌^◌, ◌<◌, ◌≤◌, pos, nat_abs, ◌*ℤ◌, length, get_or};
 ghost use Rattle.refusal.specs.declared.Refusal.TheVariants.{None};
 ghost use Rattle.util.specs.Words.{listed};

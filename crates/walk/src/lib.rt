@@ -1,4 +1,7 @@
 // The walk over an image's words that finds the first term, or the first final sum, outside 16 bits.
+
+#![tactic(auto)]
+
 ghost use Rattle.std.specs.Prelude.{◌≡◌};
 ghost use Rattle.refusal.specs.declared.Table.TheVariants.{Offset, Alpha, Kta};
 ghost use Rattle.util.specs.Words.{listed};
@@ -20,7 +23,7 @@ pub use shared::{column_terms, k_ta_columns, row_sums};
 pub use terms::{k_ta_average_low, k_ta_average_word, scale_power, scaled};
 
 // The terms of a pixel in one table, and their sum with the average. A term that the table doesn't have is 0.
-#[derive(Drop)]
+#[derive(Clone, Copy)]
 pub struct PixelTerms {
     pub row: i32,
     pub column: i32,

@@ -1,4 +1,7 @@
 // An explanation in words, laid into a lent buffer byte for byte. What has no room in the buffer is dropped.
+
+#![tactic(auto)]
+
 mod lines;
 mod sentences;
 mod words;
