@@ -11,7 +11,7 @@ use lib.Signed.{lt_z}
 use mir.Syntax.{Width}
 use mir.Val.{SFits, to_z, of_z, hbits}
 use mir.Facts.{to_z_pos}
-use Rattle.util.specs.Bytes.{complement}
+use Rattle.util.specs.Bytes.{complement, i16_bits}
 
 -- a width that holds count numbers, half of them negative
 module _ (w : Width) (count half : ℕ) (whole : count ≡ 2 * half) (top : 2 ^ hbits w ≡ half) (bits_of : (n : ℕ) → of_z w (negsuc n) ≡ count - suc n) where
@@ -28,3 +28,9 @@ module _ (w : Width) (count half : ℕ) (whole : count ≡ 2 * half) (top : 2 ^ 
   unfolding complement
   plain (pos n) f t = (n, refl, subst (λ (m : ℕ). n < m) top f.sfits, refl)
   plain (negsuc n) f t = absurd (subst T t tt)
+
+-- the 16 bits are those of a width that holds 2^16 numbers
+pub complement-16 : (z : ℤ) → complement 0x1_0000 z ≡ i16_bits z
+unfolding complement i16_bits
+complement-16 (pos n) = refl
+complement-16 (negsuc n) = refl
