@@ -10,6 +10,7 @@ use refusal::{Refusal, Table};
 use util::outside;
 
 // The first fault of a pixel with at most three terms and a sum. For what a pixel doesn't have the caller hands over 0.
+#[tactic(auto, unfolding(crate::specs::Steps::first_outside))]
 pub fn first_of(table: Table, p: u32, row: i32, column: i32, own: i32, total: i32) -> Refusal
     ensures { result ≡ first_outside (steps.term table p row ∷ steps.term table p column ∷ steps.term table p own ∷ steps.sum table p total ∷ []) }
 {
