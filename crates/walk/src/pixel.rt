@@ -57,6 +57,7 @@ pub fn k_ta_terms(average: u16, scales: u16, own: u16, p: usize) -> PixelTerms
 }
 
 // The first fault of a pixel with these terms in a table. 0 is handed over for what a table has not: alpha a sum to test, Kta a row and a column.
+#[tactic(auto, unfolding(steps::specs::Steps::first_outside, util::specs::Sums::in16))]
 pub fn fault_of(table: Table, p: u32, terms: PixelTerms) -> Refusal
     ensures { result ≡ first_outside (steps_for table p terms) }
 {
