@@ -4,8 +4,9 @@
 #![tactic(auto)]
 
 use asking::Asked;
-use libc::{STDIN_FILENO, STDOUT_FILENO};
+use input::fill;
 use script::{after, before, front, image_of, letter, next_row};
+use std::io::Result;
 use wording::explain_image;
 
 // How many bytes of a row's image are handed over.
@@ -14,41 +15,42 @@ fn image_bytes(row: &[u8]) -> usize {
 }
 
 // Prints the explanation of a number of a row's image.
-fn explain_row(row: &[u8], table: u32, p: usize) {
+fn explain_row(rt: &impl Print, row: &[u8], table: u32, p: usize) -> Result<()> {
     let image = image_of(before(b'|', row));
     let mut text = [0; 2048];
     let length = explain_image(front(&image, image_bytes(row)), table, p, &mut text);
-    io::write_all(STDOUT_FILENO, &text[..length]);
+    rt.write_all(&text[..length])
 }
 
 // Prints a row, and what is answered.
-fn tell(row: &[u8]) {
+fn tell(rt: &impl Print, row: &[u8]) -> Result<()> {
     let asked = after(b'|', row);
     if asked.len() == 0 {
-        return;
+        return Ok(());
     }
-    io::write_all(STDOUT_FILENO, row);
-    io::write_all(STDOUT_FILENO, b"\n");
+    rt.write_all(row)?;
+    rt.write_all(b"\n")?;
     let table: Asked = asking::table(before(b' ', asked));
     let pixel: Asked = asking::pixel(after(b' ', asked));
     if table.good && pixel.good {
-        explain_row(row, table.value, pixel.value as usize);
+        explain_row(rt, row, table.value, pixel.value as usize)
     } else {
-        io::write_all(STDOUT_FILENO, b"usage\n");
+        rt.write_all(b"usage\n")
     }
 }
 
 // Every row of the table.
-fn all_rows(table: &[u8]) {
+fn all_rows(rt: &impl Print, table: &[u8]) -> Result<()> {
     let mut at = 0;
     while at < table.len() {
-        tell(before(b'\n', &table[at..]));
+        tell(rt, before(b'\n', &table[at..]))?;
         at = next_row(table, at);
     }
+    Ok(())
 }
 
-fn main() {
-    let mut space = io::large_buffer();
-    let count = io::read_full(STDIN_FILENO, &mut space);
-    all_rows(&space[..count]);
+fn main(rt: HostRuntime) -> Result<()> {
+    let mut space = [0u8; 65536];
+    let count = fill(&mut rt.stdin(), &mut space).count;
+    all_rows(&rt, &space[..count])
 }

@@ -6,6 +6,7 @@ use crate::lent::Lent;
 use crate::say::{answer, holds};
 use mofuleka::{mofuleka_from_data, mofuleka_gathering_from_data};
 use script::{front, number};
+use std::io::Result;
 
 // The decoder's answer, and the four slices after it.
 #[derive(Clone, Copy)]
@@ -65,23 +66,23 @@ fn filled_from(source: u16, bytes: &[u8], short: u16) -> Filled {
 }
 
 // What the tables hold.
-fn tables_hold(f: Filled, short: u16) {
+fn tables_hold(rt: &impl Print, f: Filled, short: u16) -> Result<()> {
     let offset = f.offset;
     let alpha = f.alpha;
     let k_ta = f.k_ta;
-    holds(b"  offset ", front(&offset, length(1536, 1, short)));
-    holds(b"  alpha  ", front(&alpha, length(3072, 2, short)));
-    holds(b"  k_ta   ", front(&k_ta, length(3072, 3, short)));
+    holds(rt, b"  offset ", front(&offset, length(1536, 1, short)))?;
+    holds(rt, b"  alpha  ", front(&alpha, length(3072, 2, short)))?;
+    holds(rt, b"  k_ta   ", front(&k_ta, length(3072, 3, short)))
 }
 
 // Decodes, and prints the answer and what the slices then hold.
-pub fn decoded(what: &[u8], lent: Lent, row: &[u8]) {
+pub fn decoded(rt: &impl Print, what: &[u8], lent: Lent, row: &[u8]) -> Result<()> {
     let source = number(row, 1);
     let short = number(row, 2);
     let bytes = lent.source(source);
     let f = filled_from(source, front(&bytes, lent.source_length(source)), short);
     let record = f.record;
-    answer(what, f.word);
-    tables_hold(f, short);
-    holds(b"  record ", front(&record, length(122, 4, short)));
+    answer(rt, what, f.word)?;
+    tables_hold(rt, f, short)?;
+    holds(rt, b"  record ", front(&record, length(122, 4, short)))
 }

@@ -5,6 +5,7 @@ use crate::lent::Lent;
 use crate::say::{answer, hex, text};
 use mofuleka::mofuleka_explain;
 use script::{front, number};
+use std::io::Result;
 use util::word;
 
 // The answer, and the bytes after it.
@@ -30,18 +31,18 @@ fn told_of(image: &[u8], table: u32, pixel: usize, room: u16) -> Told {
 }
 
 // All that the slice holds, and what follows it.
-fn shown(out: &[u8]) {
-    text(b"  explanation");
+fn shown(rt: &impl Print, out: &[u8]) -> Result<()> {
+    text(rt, b"  explanation")?;
     let mut i = 0;
     while i < 38 {
-        hex(word(out, i) as u64, 4);
+        hex(rt, word(out, i) as u64, 4)?;
         i += 1;
     }
-    text(b"\n");
+    text(rt, b"\n")
 }
 
 // Asks, and prints the answer and what the slice then holds.
-pub fn explained(what: &[u8], lent: Lent, row: &[u8]) {
+pub fn explained(rt: &impl Print, what: &[u8], lent: Lent, row: &[u8]) -> Result<()> {
     let bytes = lent.source(0);
     let told = told_of(
         front(&bytes, lent.source_length(0)),
@@ -50,6 +51,6 @@ pub fn explained(what: &[u8], lent: Lent, row: &[u8]) {
         number(row, 3),
     );
     let out = told.out;
-    answer(what, told.word);
-    shown(front(&out, 76));
+    answer(rt, what, told.word)?;
+    shown(rt, front(&out, 76))
 }

@@ -7,6 +7,7 @@ use mofuleka::{
     mofuleka_gathering_status, mofuleka_gathering_word,
 };
 use script::{after, before, bytes_of, front, letter, number};
+use std::io::Result;
 
 // The answer to a question to the gathering, or to any other.
 pub fn gathering_answer(lent: Lent, row: &[u8]) -> u64 {
@@ -20,14 +21,14 @@ pub fn gathering_answer(lent: Lent, row: &[u8]) -> u64 {
 }
 
 // Prints an answer, and what the gathering holds.
-fn shown(what: &[u8], word: u64, lent: Lent) {
+fn shown(rt: &impl Print, what: &[u8], word: u64, lent: Lent) -> Result<()> {
     let gathering = lent.gathering;
-    answer(what, word);
-    holds(b"  gathering ", front(&gathering, room(lent.short)));
+    answer(rt, what, word)?;
+    holds(rt, b"  gathering ", front(&gathering, room(lent.short)))
 }
 
 // What is lent after a call that may change the gathering: a block is handed to it, the other is merged into it, or it is made fresh.
-fn handed_over(lent: Lent, row: &[u8]) -> Lent {
+fn handed_over(rt: &impl Print, lent: Lent, row: &[u8]) -> Result<Lent> {
     let block = bytes_of(before(b'|', row));
     let bytes = block.bytes;
     let other = lent.other;
@@ -39,14 +40,14 @@ fn handed_over(lent: Lent, row: &[u8]) -> Lent {
         _ => mofuleka_gathering_fresh(&mut gathering[..n]),
     };
     let next = lent.with_gathering(gathering, lent.short);
-    shown(after(b'|', row), word, next);
-    next
+    shown(rt, after(b'|', row), word, next)?;
+    Ok(next)
 }
 
 // What is lent after a row.
-pub fn changed(lent: Lent, row: &[u8]) -> Lent {
+pub fn changed(rt: &impl Print, lent: Lent, row: &[u8]) -> Result<Lent> {
     match letter(row, 0) {
-        b'A' | b'M' | b'F' => handed_over(lent, row),
-        _ => lent,
+        b'A' | b'M' | b'F' => handed_over(rt, lent, row),
+        _ => Ok(lent),
     }
 }

@@ -1,4 +1,4 @@
-// Calls all 28 functions of the C interface, accepted and refused, and prints every answer and what the lent memory then holds. The calls stand on
+// Calls the functions of the C interface, accepted and refused, and prints every answer and what the lent memory then holds. The calls stand on
 // standard input, a row for each; the table's head says what a row can be. The gate holds each line to the stored answers (stdout), which stand
 // beside docs/INTERFACE.md: an answer that moved shows here.
 
@@ -14,11 +14,12 @@ mod rows;
 mod say;
 mod sizes;
 
-use libc::STDIN_FILENO;
+use input::fill;
 use rows::all_rows;
+use std::io::Result;
 
-fn main() {
-    let mut space = io::large_buffer();
-    let count = io::read_full(STDIN_FILENO, &mut space);
-    all_rows(&space[..count]);
+fn main(rt: HostRuntime) -> Result<()> {
+    let mut space = [0u8; 65536];
+    let count = fill(&mut rt.stdin(), &mut space).count;
+    all_rows(&rt, &space[..count])
 }

@@ -5,6 +5,7 @@ use crate::lent::Lent;
 use crate::say::{answer, hex, text};
 use mofuleka::{mofuleka_gathering_pixel, mofuleka_pixel};
 use script::{front, number};
+use std::io::Result;
 use util::word;
 
 // The answer, and the bytes after it.
@@ -39,17 +40,17 @@ fn long(high: u16, low: u16) -> u64 {
 }
 
 // The offset, alpha, Kta and two bytes more that a slice holds.
-fn shown(out: &[u8]) {
-    text(b"  pixel");
-    hex(word(out, 0) as u64, 4);
-    hex(long(word(out, 1), word(out, 2)), 8);
-    hex(long(word(out, 3), word(out, 4)), 8);
-    hex(word(out, 5) as u64, 4);
-    text(b"\n");
+fn shown(rt: &impl Print, out: &[u8]) -> Result<()> {
+    text(rt, b"  pixel")?;
+    hex(rt, word(out, 0) as u64, 4)?;
+    hex(rt, long(word(out, 1), word(out, 2)), 8)?;
+    hex(rt, long(word(out, 3), word(out, 4)), 8)?;
+    hex(rt, word(out, 5) as u64, 4)?;
+    text(rt, b"\n")
 }
 
 // Asks, and prints the answer and what the slice then holds.
-pub fn single(what: &[u8], lent: Lent, row: &[u8]) {
+pub fn single(rt: &impl Print, what: &[u8], lent: Lent, row: &[u8]) -> Result<()> {
     let source = number(row, 1);
     let bytes = lent.source(source);
     let s = single_of(
@@ -59,6 +60,6 @@ pub fn single(what: &[u8], lent: Lent, row: &[u8]) {
         number(row, 3),
     );
     let out = s.out;
-    answer(what, s.word);
-    shown(front(&out, 12));
+    answer(rt, what, s.word)?;
+    shown(rt, front(&out, 12))
 }

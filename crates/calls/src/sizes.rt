@@ -6,6 +6,7 @@ use mofuleka::{
     mofuleka_pixel_bytes, mofuleka_record_bytes,
 };
 use script::number;
+use std::io::Result;
 
 // Size n of the interface.
 fn size_at(n: u16) -> usize {
@@ -21,9 +22,9 @@ fn size_at(n: u16) -> usize {
     }
 }
 
-pub fn size(what: &[u8], row: &[u8]) {
-    text(what);
-    text(b": ");
-    decimal(size_at(number(row, 1)) as u64);
-    text(b"\n");
+pub fn size(rt: &impl Print, what: &[u8], row: &[u8]) -> Result<()> {
+    text(rt, what)?;
+    text(rt, b": ")?;
+    decimal(rt, size_at(number(row, 1)) as u64)?;
+    text(rt, b"\n")
 }

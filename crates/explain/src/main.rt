@@ -11,8 +11,10 @@ ghost use Rattle.page.specs.Page.{image_in};
 
 use asking::Asked;
 use input::{Input, fill};
-use libc::{STDERR_FILENO, STDIN_FILENO, STDOUT_FILENO};
 use page::image_length;
+use std::env::{Env, FillError};
+use std::io::Read;
+use std::process::ExitCode;
 use wording::explain_image;
 
 // The explanation of a pixel of the image that an input stands for.
@@ -26,60 +28,70 @@ fn explain_input(input: &[u8], table: u32, p: usize, out: &mut [u8; 2048]) -> us
 }
 
 // Reads an input into a buffer with room for more than a page: what fills it is longer than a page, and the rest of it need not be read.
-fn read_input(buffer: &mut [u8]) -> Input
+fn read_input<R: Read>(reader: &mut R, buffer: &mut [u8]) -> Input
     requires { 2048 < length buffer.old }
     ensures { IsPrefixLen result.count buffer.new }
 {
-    fill(STDIN_FILENO, buffer)
+    fill(reader, buffer)
 }
 
-// The table that the first argument asks for.
-fn asked_table() -> Asked {
+// The table that the first argument asks for. No argument of more than 64 bytes names one.
+fn asked_table(rt: &impl Env) -> Asked {
     let mut text = [0; 64];
-    let count = os::arg(1, &mut text);
-    asking::table(&text[..count])
+    match rt.arg(1, &mut text) {
+        Ok(count) => asking::table(&text[..count]),
+        Err(_) => asking::table(b""),
+    }
 }
 
 // The pixel that the second asks for.
-fn asked_pixel() -> Asked {
+fn asked_pixel(rt: &impl Env) -> Asked {
     let mut text = [0; 64];
-    let count = os::arg(2, &mut text);
-    asking::pixel(&text[..count])
+    match rt.arg(2, &mut text) {
+        Ok(count) => asking::pixel(&text[..count]),
+        Err(_) => asking::pixel(b""),
+    }
+}
+
+// Whether there are no arguments behind these two.
+fn asks_no_more(rt: &impl Env) -> bool {
+    let mut text = [0; 64];
+    matches!(rt.arg(3, &mut text), Err(FillError::NotPresent))
 }
 
 // Says how the program is called.
-fn say_usage() {
-    io::write_all(
-        STDERR_FILENO,
-        b"usage: explain TABLE PIXEL < IMAGE\nTABLE is offset, alpha or k_ta, or 0, 1 or 2; PIXEL is 0 to 767, or ROW,COLUMN as in 5,0\n",
+fn say_usage(rt: &impl Eprint) {
+    let _ = rt.eprint(
+        "usage: explain TABLE PIXEL < IMAGE\nTABLE is offset, alpha or k_ta, or 0, 1 or 2; PIXEL is 0 to 767, or ROW,COLUMN as in 5,0\n",
     );
 }
 
 // Reads the image and prints.
-fn answer(table: u32, p: usize) {
+fn answer(rt: &HostRuntime, table: u32, p: usize) -> ExitCode {
     let mut buffer = [0; 2049];
-    let input = read_input(&mut buffer);
+    let input = read_input(&mut rt.stdin(), &mut buffer);
     let count = input.count;
     if input.failed {
-        io::write_all(STDERR_FILENO, b"explain: standard input can't be read\n");
-        return;
+        let _ = eprintln!(rt; "explain: standard input can't be read");
+        return ExitCode::FAILURE;
     }
     let mut text = [0; 2048];
     let length = explain_input(&buffer[..count], table, p, &mut text);
-    if !io::write_all(STDOUT_FILENO, &text[..length]) {
-        io::write_all(
-            STDERR_FILENO,
-            b"explain: standard output can't be written\n",
-        );
+    if rt.write_all(&text[..length]).is_err() {
+        let _ = eprintln!(rt; "explain: standard output can't be written");
+        return ExitCode::FAILURE;
     }
+    ExitCode::SUCCESS
 }
 
-fn main() {
-    let table = asked_table();
-    let pixel = asked_pixel();
-    if os::arg_count() == 3 && table.good && pixel.good {
-        answer(table.value, pixel.value as usize);
+// Exit status 2 where the arguments are no question.
+fn main(rt: HostRuntime) -> ExitCode {
+    let table = asked_table(&rt);
+    let pixel = asked_pixel(&rt);
+    if asks_no_more(&rt) && table.good && pixel.good {
+        answer(&rt, table.value, pixel.value as usize)
     } else {
-        say_usage();
+        say_usage(&rt);
+        ExitCode::from(2)
     }
 }

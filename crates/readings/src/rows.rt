@@ -8,6 +8,7 @@ use crate::record_questions::{of_pixels, of_record};
 use crate::report::{Report, print};
 use crate::table_questions::of_tables;
 use script::{after, before, front, image_of, letter, next_row, number};
+use std::io::Result;
 
 // What is held, and what was read so far.
 #[derive(Clone, Copy)]
@@ -40,19 +41,19 @@ fn answers(held: Held, questions: &[u8]) -> Line {
 }
 
 // A reading: questions, what they are, and what is expected.
-fn reading(run: Run, row: &[u8]) -> Report {
+fn reading(rt: &impl Print, run: Run, row: &[u8]) -> Result<Report> {
     let texts = after(b'|', row);
     let got = answers(run.held, before(b'|', row));
     let report = run.report;
-    report.reading(before(b'|', texts), after(b'|', texts), got)
+    report.reading(rt, before(b'|', texts), after(b'|', texts), got)
 }
 
 // Prints the listing of the image below a text.
-fn list(held: Held, row: &[u8]) {
+fn list(rt: &impl Print, held: Held, row: &[u8]) -> Result<()> {
     let image = held.image;
-    print(after(b'|', row));
-    print(b"\n");
-    Line::listing(front(&image, held.length)).print();
+    print(rt, after(b'|', row))?;
+    print(rt, b"\n")?;
+    Line::listing(front(&image, held.length)).print(rt)
 }
 
 // What is held after a row.
@@ -70,27 +71,27 @@ fn held_after(held: Held, row: &[u8]) -> Held {
 }
 
 // One row.
-fn obeyed(run: Run, row: &[u8]) -> Run {
+fn obeyed(rt: &impl Print, run: Run, row: &[u8]) -> Result<Run> {
     let held = run.held;
     let report = run.report;
     match letter(row, 0) {
-        b'r' => Run {
-            held,
-            report: reading(run, row),
-        },
-        b'l' => {
-            list(held, row);
-            run
+        b'r' => {
+            let report = reading(rt, run, row)?;
+            Ok(Run { held, report })
         }
-        _ => Run {
+        b'l' => {
+            list(rt, held, row)?;
+            Ok(run)
+        }
+        _ => Ok(Run {
             held: held_after(held, row),
             report,
-        },
+        }),
     }
 }
 
 // Every row of the table.
-pub fn all_rows(table: &[u8]) -> Report {
+pub fn all_rows(rt: &impl Print, table: &[u8]) -> Result<Report> {
     let mut run = Run {
         held: Held::of_image([0; 2496], 1664),
         report: Report::new(),
@@ -98,8 +99,8 @@ pub fn all_rows(table: &[u8]) -> Report {
     let mut at = 0;
     while at < table.len() {
         let row = before(b'\n', &table[at..]);
-        run = obeyed(run, row);
+        run = obeyed(rt, run, row)?;
         at = next_row(table, at);
     }
-    run.report
+    Ok(run.report)
 }

@@ -6,9 +6,10 @@
 
 ghost use Rattle.std.specs.Prelude.{◌<◌, ◌≤◌};
 
-use libc::{STDIN_FILENO, STDOUT_FILENO};
+use input::fill;
 use mofuleka::mofuleka_from_data;
-use std::num::wrapping_add_u8;
+use std::io;
+use std::io::Read;
 
 // Where alpha_ptat's second byte stands in a record, and its nibble, at the top of the word at 0x2410, in an image.
 const STEPS_BYTE: usize = 18;
@@ -40,11 +41,11 @@ fn set_word(bytes: &mut [u8], w: usize, high: u8, low: u8) {
 }
 
 // Reads n pairs of a word's number and its value into the image.
-fn set_words(n: usize, bytes: &mut [u8]) -> bool {
+fn set_words<R: Read>(reader: &mut R, n: usize, bytes: &mut [u8]) -> bool {
     let mut i = 0;
     while i < n {
         let mut set = [0u8; 4];
-        if io::read_full(STDIN_FILENO, &mut set) < 4 {
+        if fill(reader, &mut set).count < 4 {
             return false;
         }
         set_word(bytes, util::word(&set, 0) as usize, set[2], set[3]);
@@ -54,26 +55,26 @@ fn set_words(n: usize, bytes: &mut [u8]) -> bool {
 }
 
 // Whether the next bytes of the sample are those that the library wrote.
-fn as_recorded(got: &[u8]) -> bool {
+fn as_recorded<R: Read>(reader: &mut R, got: &[u8]) -> bool {
     let n = got.len();
     if 4096 < n {
         return false;
     }
-    let mut space = io::buffer();
+    let mut space = [0u8; 4096];
     let recorded = &mut space[..n];
-    if io::read_full(STDIN_FILENO, recorded) < n {
+    if fill(reader, recorded).count < n {
         return false;
     }
     check::same(recorded, got)
 }
 
 // Whether the record is the next one of the sample, with its alpha_ptat raised by so many quarters. From 8 to 12 a quarter is 4 in the second byte of an f32.
-fn record_as_recorded(got: &[u8; 122], quarters: u8) -> bool {
+fn record_as_recorded<R: Read>(reader: &mut R, got: &[u8; 122], quarters: u8) -> bool {
     let mut recorded = [0u8; 122];
-    if io::read_full(STDIN_FILENO, &mut recorded) < 122 {
+    if fill(reader, &mut recorded).count < 122 {
         return false;
     }
-    recorded[STEPS_BYTE] = wrapping_add_u8(recorded[STEPS_BYTE], quarters % 4 * 4);
+    recorded[STEPS_BYTE] = recorded[STEPS_BYTE].wrapping_add(quarters % 4 * 4);
     check::same(&recorded, got)
 }
 
@@ -93,7 +94,7 @@ fn taken(quarters: u8) -> Outcome {
 }
 
 // Decodes an image and compares: the answer word, and where the sample has an accepted image the record and the tables.
-fn decoded_as(bytes: &[u8], length: usize, expected: u64) -> Outcome {
+fn decoded_as<R: Read>(reader: &mut R, bytes: &[u8], length: usize, expected: u64) -> Outcome {
     let mut offset = [0u8; 1536];
     let mut alpha = [0u8; 3072];
     let mut k_ta = [0u8; 3072];
@@ -108,10 +109,10 @@ fn decoded_as(bytes: &[u8], length: usize, expected: u64) -> Outcome {
         };
     }
     let quarters = util::byte(bytes, NIBBLE_BYTE) / 16 % 4;
-    let same_record = record_as_recorded(&record, quarters);
-    let same_offset = as_recorded(&offset);
-    let same_alpha = as_recorded(&alpha);
-    let same_k_ta = as_recorded(&k_ta);
+    let same_record = record_as_recorded(reader, &record, quarters);
+    let same_offset = as_recorded(reader, &offset);
+    let same_alpha = as_recorded(reader, &alpha);
+    let same_k_ta = as_recorded(reader, &k_ta);
     if answer == 0 && same_record && same_offset && same_alpha && same_k_ta {
         taken(quarters)
     } else {
@@ -128,20 +129,20 @@ fn answer_word(tail: &[u8]) -> u64 {
 }
 
 // Replays one entry.
-fn replay_entry() -> Outcome {
+fn replay_entry<R: Read>(reader: &mut R) -> Outcome {
     let mut head = [0u8; 2];
-    if io::read_full(STDIN_FILENO, &mut head) < 2 {
+    if fill(reader, &mut head).count < 2 {
         return Outcome::End;
     }
-    let mut space = io::buffer();
+    let mut space = [0u8; 4096];
     let bytes: &mut [u8] = &mut space;
-    if set_words(util::word(&head, 0) as usize, bytes) {
+    if set_words(reader, util::word(&head, 0) as usize, bytes) {
         let mut tail = [0u8; 6];
-        if io::read_full(STDIN_FILENO, &mut tail) < 6 {
+        if fill(reader, &mut tail).count < 6 {
             return Outcome::Broken;
         }
         let expected = answer_word(&tail);
-        return decoded_as(bytes, util::word(&tail, 0) as usize, expected);
+        return decoded_as(reader, bytes, util::word(&tail, 0) as usize, expected);
     }
     Outcome::Broken
 }
@@ -206,12 +207,12 @@ fn left_after(left: usize, ended: bool) -> usize
     if ended { 0 } else { left - 1 }
 }
 
-fn say(count: u64, what: &[u8]) {
-    io::print_decimal(STDOUT_FILENO, count);
-    io::write_all(STDOUT_FILENO, what);
+fn say(rt: &impl Print, count: u64, what: &str) -> io::Result<()> {
+    print!(rt; "{count}{what}")
 }
 
-fn main() {
+fn main(rt: HostRuntime) -> io::Result<()> {
+    let mut reader = rt.stdin();
     let mut tally = Tally {
         accepted: 0,
         in_quarters: 0,
@@ -222,15 +223,16 @@ fn main() {
     };
     let mut left = 10000;
     while 0 < left {
-        tally = counted(tally, replay_entry());
+        tally = counted(tally, replay_entry(&mut reader));
         left = left_after(left, tally.ended);
     }
-    say(tally.accepted, b" accepted with the recorded numbers\n");
+    say(&rt, tally.accepted, " accepted with the recorded numbers\n")?;
     say(
+        &rt,
         tally.in_quarters,
-        b" accepted with these, and alpha_ptat in quarter steps, where the crate has whole ones\n",
-    );
-    say(tally.refused, b" refused as the scope has them\n");
-    say(tally.compared, b" compared, ");
-    say(tally.different, b" different\n");
+        " accepted with these, and alpha_ptat in quarter steps, where the crate has whole ones\n",
+    )?;
+    say(&rt, tally.refused, " refused as the scope has them\n")?;
+    say(&rt, tally.compared, " compared, ")?;
+    say(&rt, tally.different, " different\n")
 }

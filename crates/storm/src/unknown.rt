@@ -3,6 +3,7 @@
 use crate::text::{line, print, state};
 use gathering::{Gathering, mark_number};
 use refusal::code_of;
+use std::io::Result;
 
 // Each word has the value 7 and is held, but words 5 and 9, whose marks are unknown, word 10, which is in conflict, and word 12, which is
 // missing.
@@ -27,91 +28,96 @@ fn held_state() -> Gathering {
 }
 
 // A word's mark and value, after a name.
-fn cell(name: &[u8], w: usize, mark: u8, value: u16) {
-    print(name);
-    io::print_decimal(1, w as u64);
-    print(b": mark ");
-    io::print_decimal(1, mark as u64);
-    line(b", value ", value as u64);
+fn cell(rt: &impl Print, name: &[u8], w: usize, mark: u8, value: u16) -> Result<()> {
+    print(rt, name)?;
+    print!(rt; "{w}")?;
+    print!(rt; ": mark {mark}")?;
+    line(rt, b", value ", value as u64)
 }
 
 // What a state answers to the question about word w.
-fn asked(g: Gathering, w: usize) {
+fn asked(rt: &impl Print, g: Gathering, w: usize) -> Result<()> {
     let word = g.word(w);
     let mark = word.mark;
-    cell(b"  word ", w, mark_number(mark), word.value);
+    cell(rt, b"  word ", w, mark_number(mark), word.value)
 }
 
 // What a state answers to every question.
-fn questions(g: Gathering) {
-    state(b"  missing ", g);
-    asked(g, 5);
-    asked(g, 9);
-    asked(g, 10);
-    asked(g, 11);
-    asked(g, 12);
+fn questions(rt: &impl Print, g: Gathering) -> Result<()> {
+    state(rt, b"  missing ", g)?;
+    asked(rt, g, 5)?;
+    asked(rt, g, 9)?;
+    asked(rt, g, 10)?;
+    asked(rt, g, 11)?;
+    asked(rt, g, 12)
 }
 
 // What a state stores of word w.
-fn stored_of(g: Gathering, w: usize) {
+fn stored_of(rt: &impl Print, g: Gathering, w: usize) -> Result<()> {
     if w < 832 {
-        cell(b"  stores of word ", w, g.marks[w], g.values[w]);
+        return cell(rt, b"  stores of word ", w, g.marks[w], g.values[w]);
     }
+    Ok(())
 }
 
 // What a state stores of the words that are out of the ordinary, and of one that is not.
-fn stored(g: Gathering) {
-    stored_of(g, 5);
-    stored_of(g, 9);
-    stored_of(g, 10);
-    stored_of(g, 11);
-    stored_of(g, 12);
+fn stored(rt: &impl Print, g: Gathering) -> Result<()> {
+    stored_of(rt, g, 5)?;
+    stored_of(rt, g, 9)?;
+    stored_of(rt, g, 10)?;
+    stored_of(rt, g, 11)?;
+    stored_of(rt, g, 12)
 }
 
 // What a state answers to a block, and what it then stores.
-fn after_block(what: &[u8], g: Gathering, block: &[u8]) {
-    print(what);
+fn after_block(rt: &impl Print, what: &[u8], g: Gathering, block: &[u8]) -> Result<()> {
+    print(rt, what)?;
     let answer = g.accept(block);
     let why = answer.refusal;
-    line(b"  refusal ", code_of(why).number as u64);
-    stored(answer.gathering);
+    line(rt, b"  refusal ", code_of(why).number as u64)?;
+    stored(rt, answer.gathering)
 }
 
 // What a state stores after it has merged another.
-fn after_merge(what: &[u8], g: Gathering, other: Gathering) {
-    print(what);
-    stored(g.merge(other));
+fn after_merge(rt: &impl Print, what: &[u8], g: Gathering, other: Gathering) -> Result<()> {
+    print(rt, what)?;
+    stored(rt, g.merge(other))
 }
 
-fn blocks(g: Gathering) {
+fn blocks(rt: &impl Print, g: Gathering) -> Result<()> {
     after_block(
+        rt,
         b"it takes a block that has 7 for word 5\n",
         g,
         b"\x00\x05\x01\x00\x05\x00\x07",
-    );
+    )?;
     after_block(
+        rt,
         b"it takes a block of version 2\n",
         g,
         b"\x00\x05\x02\x00\x05\x00\x07",
-    );
+    )
 }
 
-fn merges(g: Gathering) {
+fn merges(rt: &impl Print, g: Gathering) -> Result<()> {
     let fresh = Gathering::fresh();
     let held = held_state();
-    after_merge(b"it merges a fresh state\n", g, fresh);
-    after_merge(b"a fresh state merges it\n", fresh, g);
-    after_merge(b"it merges a state with 7 for each word\n", g, held);
-    after_merge(b"a state with 7 for each word merges it\n", held, g);
+    after_merge(rt, b"it merges a fresh state\n", g, fresh)?;
+    after_merge(rt, b"a fresh state merges it\n", fresh, g)?;
+    after_merge(rt, b"it merges a state with 7 for each word\n", g, held)?;
+    after_merge(rt, b"a state with 7 for each word merges it\n", held, g)
 }
 
-pub fn unknown_marks() {
+pub fn unknown_marks(rt: &impl Print) -> Result<()> {
     let g = unknown_state();
-    print(b"a state with 7 for each word, words 5, 9, 10 and 12 marked 3, 255, 2 and 0\n");
-    questions(g);
-    print(b"its status leaves it as it is\n");
+    print(
+        rt,
+        b"a state with 7 for each word, words 5, 9, 10 and 12 marked 3, 255, 2 and 0\n",
+    )?;
+    questions(rt, g)?;
+    print(rt, b"its status leaves it as it is\n")?;
     let status = g.status();
-    stored(status.gathering);
-    blocks(g);
-    merges(g);
+    stored(rt, status.gathering)?;
+    blocks(rt, g)?;
+    merges(rt, g)
 }
