@@ -11,7 +11,7 @@ use Rattle.refusal.specs.declared.Refusal.TheVariants.{None}
 use Rattle.exact.specs.Dyadic.{dyadic, minus_zero, plus_zero}
 use Rattle.util.specs.Sums.{in16}
 use Rattle.exact.specs.Fraction.{◌/2^◌, float}
-use Rattle.record.specs.Fields.{record_of, alpha_ptat_field, gradient_of, A, B, C, interleave_six}
+use Rattle.record.specs.Fields.{record_of, alpha_ptat_field, gradient_of, interleave_a, interleave_b, interleave_c, interleave_six}
 use Rattle.datasheet.specs.Formulas as D
 use Rattle.record.specs.declared.Optional.TheVariants.{Absent}
 use Rattle.record.proofs.Before.{whole_steps}
@@ -63,7 +63,7 @@ gradient-differs = record {
 
 -- zeros: the first of the six is -0.0, and the datasheet's correction of pixel 0 is zero
 pub six-differs : Differs [] (λ d w. get_or d.«record».interleave_correction_pixels 0 nan) (λ EE. float (D.correction EE 0)) minus_zero plus_zero
-unfolding words_set walk table_steps steps_from pixel_steps term_steps first_outside row_sum column_sum whole_sum kta_sum in16 record_of A B C interleave_six neg dyadic D.correction D.il_chess_c2 D.il_chess_c3
+unfolding words_set walk table_steps steps_from pixel_steps term_steps first_outside row_sum column_sum whole_sum kta_sum in16 record_of interleave_a interleave_b interleave_c interleave_six neg dyadic D.correction D.il_chess_c2 D.il_chess_c3
 six-differs = record {
   accepted = ap (λ (d : Decoded). d.refusal) (decoded-set []) ∙ refl;
   answered = ap (λ (d : Decoded). get_or d.«record».interleave_correction_pixels 0 nan) (decoded-set []) ∙ refl;
