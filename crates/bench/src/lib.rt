@@ -1,4 +1,4 @@
-// The decoder itself behind a C name, for the benchmark alone: it takes no page, and the tables are in the machine's own order, as the library writes them.
+// The decoder itself, for the benchmark alone: it takes no page, and the tables are in the machine's own order, as the library writes them. Crate `bench_c` gives it a C name.
 
 #![tactic(auto)]
 
@@ -17,8 +17,7 @@ use layout::{RECORD_BYTES, put_record};
 use refusal::{accepted, code_of};
 
 // Decodes an image into three tables and a record's bytes, and answers with the refusal's number.
-#[unsafe(no_mangle)]
-pub extern "C" fn bench_from_data(
+pub fn bench_from_data(
     image: &[u8],
     offset: &mut [i16],
     alpha: &mut [f32],

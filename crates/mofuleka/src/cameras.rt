@@ -10,8 +10,7 @@ use exact::bits;
 use refusal::or_else;
 
 // Whether a pixel is in a subpage.
-#[unsafe(no_mangle)]
-pub extern "C" fn mofuleka_pixel_in_subpage(pattern: u32, subpage: u32, pixel: usize) -> u64
+pub fn mofuleka_pixel_in_subpage(pattern: u32, subpage: u32, pixel: usize) -> u64
     ensures { result ≡ pixel_in_subpage_answer pattern subpage pixel }
 {
     let mask = pixel_in_subpage(pattern_of(pattern), subpage_of(subpage), pixel);
@@ -21,8 +20,7 @@ pub extern "C" fn mofuleka_pixel_in_subpage(pattern: u32, subpage: u32, pixel: u
 }
 
 // How many ranges a subpage is read in.
-#[unsafe(no_mangle)]
-pub extern "C" fn mofuleka_pixel_range_count(pattern: u32) -> u64
+pub fn mofuleka_pixel_range_count(pattern: u32) -> u64
     ensures { result ≡ pixel_range_count_answer pattern }
 {
     answer(
@@ -33,8 +31,7 @@ pub extern "C" fn mofuleka_pixel_range_count(pattern: u32) -> u64
 }
 
 // A range by its number.
-#[unsafe(no_mangle)]
-pub extern "C" fn mofuleka_pixel_range(pattern: u32, subpage: u32, number: usize) -> u64
+pub fn mofuleka_pixel_range(pattern: u32, subpage: u32, number: usize) -> u64
     ensures { result ≡ pixel_range_answer pattern subpage number }
 {
     let read = pixel_range(pattern_of(pattern), subpage_of(subpage), number);
@@ -50,8 +47,7 @@ pub extern "C" fn mofuleka_pixel_range(pattern: u32, subpage: u32, number: usize
 }
 
 // The address of a subpage's compensation pixel.
-#[unsafe(no_mangle)]
-pub extern "C" fn mofuleka_compensation_pixel(subpage: u32) -> u64
+pub fn mofuleka_compensation_pixel(subpage: u32) -> u64
     ensures { result ≡ compensation_pixel_answer subpage }
 {
     answer(
@@ -69,8 +65,7 @@ fn as_byte(n: u32) -> u8
 }
 
 // 2 to the power calibrated minus current.
-#[unsafe(no_mangle)]
-pub extern "C" fn mofuleka_resolution_correction(calibrated: u32, current: u32) -> u64
+pub fn mofuleka_resolution_correction(calibrated: u32, current: u32) -> u64
     ensures { result ≡ resolution_correction_answer calibrated current }
 {
     let correction = resolution_correction(as_byte(calibrated), as_byte(current));

@@ -31,8 +31,7 @@ fn lay_explanation(found: Explanation, out: &mut [u8]) -> u64
 }
 
 // Explains a pixel of a table of an image, or of a page that begins with one; where the decoder refuses the image with 3 or 4, the first failure in its place.
-#[unsafe(no_mangle)]
-pub extern "C" fn mofuleka_explain(image: &[u8], table: u32, pixel: usize, out: &mut [u8]) -> u64
+pub fn mofuleka_explain(image: &[u8], table: u32, pixel: usize, out: &mut [u8]) -> u64
     ensures answer { result ≡ refusal_word (slice_explain_refusal (image_in image.now) table pixel (length out.old)) }
     ensures out { out.new ≡ lent_after (eqb result 0) (explanation_bytes (explanation_of (image_in image.now) table pixel)) out.old }
 {

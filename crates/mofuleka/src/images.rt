@@ -76,8 +76,7 @@ pub(crate) fn lay_out(
 }
 
 // Decodes an image, or a page that begins with one, into the three tables and the record. What the record's bytes are then asked is answered as the image's record is.
-#[unsafe(no_mangle)]
-pub extern "C" fn mofuleka_from_data(
+pub fn mofuleka_from_data(
     image: &[u8],
     offset: &mut [u8],
     alpha: &mut [u8],

@@ -33,8 +33,7 @@ fn lay_pixel(earlier: Refusal, found: PixelAnswer, out: &mut [u8]) -> u64
 }
 
 // A pixel of an image, or of a page that begins with one.
-#[unsafe(no_mangle)]
-pub extern "C" fn mofuleka_pixel(image: &[u8], pixel: usize, out: &mut [u8]) -> u64
+pub fn mofuleka_pixel(image: &[u8], pixel: usize, out: &mut [u8]) -> u64
     ensures answer { result ≡ refusal_word (slice_pixel_refusal (image_in image.now) pixel (length out.old)) }
     ensures out { out.new ≡ lent_after (eqb result 0) (bytes_at (image_words (image_in image.now)) pixel) out.old }
 {
@@ -60,8 +59,7 @@ fn stored_pixel(earlier: Refusal, gathering: &[u8], p: usize) -> PixelAnswer
 }
 
 // A pixel of a gathering, as soon as the words that it needs are held.
-#[unsafe(no_mangle)]
-pub extern "C" fn mofuleka_gathering_pixel(gathering: &[u8], pixel: usize, out: &mut [u8]) -> u64
+pub fn mofuleka_gathering_pixel(gathering: &[u8], pixel: usize, out: &mut [u8]) -> u64
     ensures answer { result ≡ refusal_word (stored_pixel_refusal gathering.now pixel (length out.old)) }
     ensures out { out.new ≡ lent_after (eqb result 0) (bytes_at (stored_words gathering.now) pixel) out.old }
 {

@@ -45,8 +45,7 @@ fn optional_bits(x: Optional) -> u32
 }
 
 // A pixel's Kv.
-#[unsafe(no_mangle)]
-pub extern "C" fn mofuleka_k_v_pixel(record: &[u8], pixel: usize) -> u64
+pub fn mofuleka_k_v_pixel(record: &[u8], pixel: usize) -> u64
     ensures { result ≡ k_v_pixel_answer «record».now pixel }
 {
     let kv = k_v_pixel(stored_record(record), pixel);
@@ -55,8 +54,7 @@ pub extern "C" fn mofuleka_k_v_pixel(record: &[u8], pixel: usize) -> u64
 }
 
 // A pixel's correction.
-#[unsafe(no_mangle)]
-pub extern "C" fn mofuleka_interleave_correction_pixel(
+pub fn mofuleka_interleave_correction_pixel(
     record: &[u8],
     pattern: u32,
     pixel: usize,
@@ -76,8 +74,7 @@ pub extern "C" fn mofuleka_interleave_correction_pixel(
 }
 
 // The correction of a subpage's compensation pixel.
-#[unsafe(no_mangle)]
-pub extern "C" fn mofuleka_interleave_correction_cp(
+pub fn mofuleka_interleave_correction_cp(
     record: &[u8],
     pattern: u32,
     subpage: u32,
@@ -106,8 +103,7 @@ fn cp_answer(bytes: usize, subpage: u32, value: u32) -> u64
 }
 
 // The sensitivity of a subpage's compensation pixel.
-#[unsafe(no_mangle)]
-pub extern "C" fn mofuleka_alpha_cp(record: &[u8], subpage: u32) -> u64
+pub fn mofuleka_alpha_cp(record: &[u8], subpage: u32) -> u64
     ensures { result ≡ alpha_cp_answer «record».now subpage }
 {
     let alpha = alpha_cp_of(stored_record(record), subpage_of(subpage));
@@ -115,8 +111,7 @@ pub extern "C" fn mofuleka_alpha_cp(record: &[u8], subpage: u32) -> u64
 }
 
 // The offset of a subpage's compensation pixel.
-#[unsafe(no_mangle)]
-pub extern "C" fn mofuleka_offset_reference_cp(record: &[u8], subpage: u32) -> u64
+pub fn mofuleka_offset_reference_cp(record: &[u8], subpage: u32) -> u64
     ensures { result ≡ offset_reference_cp_answer «record».now subpage }
 {
     let offset = offset_reference_cp_of(stored_record(record), subpage_of(subpage));

@@ -1,0 +1,31 @@
+// The decoder of crate `bench` under its C name, for the benchmark alone.
+
+#![tactic(auto)]
+
+ghost use Rattle.std.specs.Prelude.{◌≡◌, eqb};
+ghost use Rattle.refusal.specs.Code.{code_of};
+ghost use Rattle.util.specs.Lists.{tab};
+ghost use Rattle.record.specs.Fields.{record_of};
+ghost use Rattle.tables.specs.Entries.{offset_at, alpha_at, kta_at};
+ghost use Rattle.eeprom.specs.Image.{image_words};
+ghost use Rattle.layout.specs.RecordBytes.{record_bytes};
+ghost use Rattle.mofuleka.specs.Images.{lent_after};
+ghost use Rattle.bench.specs.Bench.{own_refusal};
+
+// Decodes an image into three tables and a record's bytes, and answers with the refusal's number.
+#[unsafe(no_mangle)]
+pub extern "C" fn bench_from_data(
+    image: &[u8],
+    offset: &mut [i16],
+    alpha: &mut [f32],
+    k_ta: &mut [f32],
+    record: &mut [u8],
+) -> u8
+    ensures answer { result ≡ (code_of (own_refusal image.now offset.old alpha.old k_ta.old «record».old)).number }
+    ensures offset { offset.new ≡ lent_after (eqb result 0) (tab (offset_at (image_words image.now)) 768) offset.old }
+    ensures alpha { alpha.new ≡ lent_after (eqb result 0) (tab (alpha_at (image_words image.now)) 768) alpha.old }
+    ensures k_ta { k_ta.new ≡ lent_after (eqb result 0) (tab (kta_at (image_words image.now)) 768) k_ta.old }
+    ensures record { «record».new ≡ lent_after (eqb result 0) (record_bytes (record_of (image_words image.now))) «record».old }
+{
+    bench::bench_from_data(image, offset, alpha, k_ta, record)
+}
