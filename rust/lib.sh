@@ -1,4 +1,4 @@
-# Sourced by the scripts in rust/: which machine this is, what is installed, where the archive is.
+# Sourced by the scripts in rust/: which machine this is, what is installed, where the kit and the archive are.
 
 root=$(cd "$(dirname "${BASH_SOURCE[0]}")/.." && pwd -P)
 machine=$(uname -m)
@@ -30,12 +30,29 @@ have() {
 # What the original crate leans on.
 install_original() { install librust-arrayvec-dev librust-num-traits-dev librust-num-enum-dev; }
 
-# delivered: sets MOFULEKA_ARCHIVE to rt's own archive, for x86-64, built if need be (or as the environment says).
+# find_kit: sets kit to the folder of the kit whose rt is in PATH, and toolchain to that of its compiler and linker.
+find_kit() {
+  local command
+  command=$(command -v rt) || { say "rt is not there: put the kit's bin/ into PATH"; exit 2; }
+  kit=$(cd "$(dirname "$(readlink -f "$command")")/.." && pwd -P)
+  toolchain=$kit/toolchain
+}
+
+# library NAME PROCESSOR FOLDER [RT]: has rt (or RT) prove the static library of NAME, the crate NAME_c, and build it for every processor of that kind: FOLDER/libNAME.a.
+library() {
+  local words=(--target "$2-unknown-linux-gnu")
+  [ "$2" = x86_64 ] && words+=(--cpu x86-64)
+  (cd "$root/crates/$1_c" && "${4:-rt}" lib "${words[@]}") >&2 || exit 1
+  mkdir -p "$3"
+  cp "$root/crates/$1_c/out/lib$1_c.a" "$3/lib$1.a"
+}
+
+# delivered: sets MOFULEKA_ARCHIVE to the archive that is delivered, for x86-64, built if need be (or as the environment says).
 delivered() {
   if [ -n "${MOFULEKA_ARCHIVE:-}" ]; then
     MOFULEKA_ARCHIVE=$(realpath "$MOFULEKA_ARCHIVE")
   else
-    (cd "$root" && rt staticlib mofuleka) >&2 || exit 1
+    library mofuleka x86_64 "$root/target/staticlib"
     MOFULEKA_ARCHIVE=$root/target/staticlib/libmofuleka.a
   fi
   export MOFULEKA_ARCHIVE
@@ -82,12 +99,22 @@ native() {
   cxx=c++
 }
 
-# native_module MODULE ARCHIVE: compiles a module of the kit's compiler for this machine's own processor.
+# native_module NAME MODULE ARCHIVE: compiles a module as the kit's compiler was told to compile that of NAME, whose words rust/compare/native-archive kept.
 native_module() {
-  local kit
-  kit=$(cd "$(dirname "$(readlink -f "$(command -v rt)")")/.." && pwd -P)
-  "$kit/on/$machine/toolchain/bin/clang" --target="$machine-unknown-linux-gnu" -Wno-override-module -O3 -fPIC -ffunction-sections \
-    -c -x ir "$1" -o "$2.o" 2>/dev/null
-  ar rcs "$2" "$2.o"
-  rm "$2.o"
+  local words word before=
+  words=()
+  find_kit
+  while read -r word; do
+    case $before:$word in
+    *:--sysroot=*) word=--sysroot=$toolchain ;;
+    ir:*.bc) word=$2 ;;
+    -o:*) word=$3.o ;;
+    esac
+    words+=("$word")
+    before=$word
+  done <"$root/target/native/$1.words"
+  "$toolchain/bin/clang" "${words[@]}" 2>/dev/null
+  rm -f "$3"
+  ar rcs "$3" "$3.o"
+  rm "$3.o"
 }

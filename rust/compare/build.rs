@@ -1,4 +1,4 @@
-//! Links the benchmark with the archive of the crate `bench`, which BENCH_ARCHIVE names.
+//! Links the benchmark with the archive of the crate `bench_c`, which BENCH_ARCHIVE names.
 use std::env;
 
 fn main() {

@@ -1,5 +1,5 @@
-//! Finds libmofuleka.a: the file that the environment variable `MOFULEKA_ARCHIVE` names, or else the one that
-//! `rt staticlib mofuleka` writes at the repository's root.
+//! Finds libmofuleka.a: the file that the environment variable `MOFULEKA_ARCHIVE` names, or else the static library that
+//! `rt lib` builds of the repository's crate `mofuleka_c`.
 use std::env;
 use std::fs;
 use std::path::{Path, PathBuf};
@@ -11,11 +11,22 @@ fn fail(message: &str) -> ! {
 }
 
 fn built_at(root: &Path) -> PathBuf {
-    println!("cargo:rerun-if-changed={}", root.join("crates").display());
     println!("cargo:rerun-if-changed={}", root.join("crates.txt").display());
-    match Command::new("rt").args(["staticlib", "mofuleka"]).current_dir(root).status() {
-        Ok(status) if status.success() => root.join("target/staticlib/libmofuleka.a"),
-        Ok(status) => fail(&format!("rt staticlib mofuleka failed: {status}")),
+    // What rt reads of each crate, and not what it writes beside that.
+    if let Ok(crates) = fs::read_dir(root.join("crates")) {
+        for folder in crates.flatten().map(|entry| entry.path()) {
+            for part in ["src", "specs", "proofs"].map(|name| folder.join(name)) {
+                if part.is_dir() {
+                    println!("cargo:rerun-if-changed={}", part.display());
+                }
+            }
+        }
+    }
+    let folder = root.join("crates/mofuleka_c");
+    let words = ["lib", "--target", "x86_64-unknown-linux-gnu", "--cpu", "x86-64"];
+    match Command::new("rt").args(words).current_dir(&folder).status() {
+        Ok(status) if status.success() => folder.join("out/libmofuleka_c.a"),
+        Ok(status) => fail(&format!("rt lib failed in crates/mofuleka_c: {status}")),
         Err(error) => {
             fail(&format!("rt could not be run ({error}); set MOFULEKA_ARCHIVE to the path of libmofuleka.a"))
         }

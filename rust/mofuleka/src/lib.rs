@@ -24,8 +24,8 @@
 //! ```
 //!
 //! # Where the archive comes from
-//! The build script takes the file that the environment variable `MOFULEKA_ARCHIVE` names; without it, `rt staticlib
-//! mofuleka` is run at the root of the repository.
+//! The build script takes the file that the environment variable `MOFULEKA_ARCHIVE` names; without it, `rt lib` is
+//! run in the repository's `crates/mofuleka_c`, and must be in `PATH`.
 //!
 //! # Without std
 //! The crate is `no_std` and allocates nothing. Its default feature, `std`, makes [`Refusal`] a `std::error::Error`, and
