@@ -1,0 +1,18 @@
+-- `turn` stores one number more.
+use Rattle.std.proofs.Common.{◌+◌, ◌*◌, refl, arith, ◌∙◌}
+use Rattle.std.specs.Float.{nan}
+use Rattle.util.specs.Bytes.{four, flat}
+use Rattle.util.proofs.Stored.{turn}
+use Rattle.layout.specs.Numbers.{float_bytes}
+use Rattle.layout.proofs.numbers.put_f32s.Goals as goal
+
+pub loop-i-init : goal.loop-i-init
+unfolding flat
+loop-i-init c = (omega arith, refl, refl)
+
+pub loop-i-preserved : goal.loop-i-preserved
+unfolding four
+loop-i-preserved c =
+    let i = c.loop-i.i in
+    let more = turn float_bytes 4 (λ x. refl) c.args.out.now c.args.at i (c.args.at + 4 * i) c.args.a.now nan c.loop-i-test.true (omega arith) in
+    (omega arith, c.put_f32.ensures ∙ rw c.loop-i.invariant.1 more, omega arith)
