@@ -10,7 +10,7 @@ invariant-loop-n l = record {
   from : 16 ≤ l.n;
   to : l.n ≤ 832;
   read : l.pairs ≡ tab (λ k. swapped (image_words l.image k)) l.n ++ drop l.n (replicate 832 0);
-  fits : (k : ℕ) → k < l.n → image_words l.image k < 65536
+  fits : (k : ℕ) → k < l.n → image_words l.image k < 65536;
 }
 
 abbrev pub decreases-loop-n : goal.decreases-loop-n

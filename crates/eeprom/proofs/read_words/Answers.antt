@@ -1,7 +1,6 @@
 -- Each turn swaps the bytes of the next word back.
 use Rattle.std.proofs.Common.{◌≡◌, ℕ, ◌<◌, List, length, get_or, ap, arith, ◌∙◌}
 use lib.ListN.{set}
-use Rattle.util.specs.Lists.{tab}
 use Rattle.util.proofs.Filled.{tab-none, tab-more, tab-at, tab-length, next-at}
 use Rattle.eeprom.specs.Image.{image_words}
 use Rattle.eeprom.specs.Inner.Pairs.{swapped}
@@ -21,10 +20,10 @@ loop-n-preserved c =
     let read = c.read_pairs-words.ensures in
     let long : length pairs ≡ 832 = ap length read.value ∙ tab-length (λ k. swapped (f k)) 832 in
     let word-is : get_or c.loop-n.words n 0 ≡ swapped (f n) =
-        ap (λ (l : List ℕ). get_or l n 0) c.loop-n.invariant.1
-        ∙ next-at f n pairs 0
-        ∙ ap (λ (l : List ℕ). get_or l n 0) read.value
-        ∙ tab-at (λ k. swapped (f k)) 832 n 0 c.loop-n-test.true in
+    ap (λ (l : List ℕ). get_or l n 0) c.loop-n.invariant.1
+    ∙ next-at f n pairs 0
+    ∙ ap (λ (l : List ℕ). get_or l n 0) read.value
+    ∙ tab-at (λ k. swapped (f k)) 832 n 0 c.loop-n-test.true in
     let stored : swapped (get_or c.loop-n.words n 0) ≡ f n = ap swapped word-is ∙ twice (f n) (read.by_index n) in
     let l : n < length pairs = omega (arith, long, c.loop-n-test.true) in
     (omega arith, ap (λ (v : ℕ). set c.loop-n.words n v) stored ∙ (ap (λ (l : List ℕ). set l n (f n)) c.loop-n.invariant.1 ∙ tab-more f n pairs l))

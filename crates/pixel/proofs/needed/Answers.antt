@@ -1,5 +1,5 @@
 -- The words are as listed, word by word, and their numbers rise.
-use Rattle.std.proofs.Common.{◌≡◌, ℕ, ◌+◌, ◌/◌, ◌%◌, List, [], ◌∷◌, sym, ap, subst}
+use Rattle.std.proofs.Common.{ℕ, ◌+◌, ◌/◌, ◌%◌, List, [], ◌∷◌, sym, ap, subst}
 use Rattle.pixel.specs.Needed.{needed_by}
 use Rattle.pixel.specs.Inner.Places.{Rising, Below}
 use Rattle.pixel.proofs.Sameness.{needed-rise, needed-below}

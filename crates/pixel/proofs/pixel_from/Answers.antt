@@ -1,5 +1,5 @@
 -- Terms, refusal and sums are those of the eleven words.
-use Rattle.std.proofs.Common.{◌≡◌, ◌++◌, List, ℕ, true, sym, rules, ◌∙◌}
+use Rattle.std.proofs.Common.{◌≡◌, ◌++◌, List, true, sym, rules, ◌∙◌}
 use mir.Syntax.{w32}
 use mir.Val.{to_z, of_z}
 use Rattle.refusal.specs.Code.{accepted_by}
