@@ -54,11 +54,7 @@ pub fn mofuleka_k_v_pixel(record: &[u8], pixel: usize) -> u64
 }
 
 // A pixel's correction.
-pub fn mofuleka_interleave_correction_pixel(
-    record: &[u8],
-    pattern: u32,
-    pixel: usize,
-) -> u64
+pub fn mofuleka_interleave_correction_pixel(record: &[u8], pattern: u32, pixel: usize) -> u64
     ensures { result ≡ interleave_correction_pixel_answer «record».now pattern pixel }
 {
     let asked = interleave_correction_pixel(stored_record(record), pattern_of(pattern), pixel);
@@ -74,11 +70,7 @@ pub fn mofuleka_interleave_correction_pixel(
 }
 
 // The correction of a subpage's compensation pixel.
-pub fn mofuleka_interleave_correction_cp(
-    record: &[u8],
-    pattern: u32,
-    subpage: u32,
-) -> u64
+pub fn mofuleka_interleave_correction_cp(record: &[u8], pattern: u32, subpage: u32) -> u64
     ensures { result ≡ interleave_correction_cp_answer «record».now pattern subpage }
 {
     let correction = interleave_correction_cp(
