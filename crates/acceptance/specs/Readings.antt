@@ -2,7 +2,7 @@
 -- An image is its bytes, and is decoded into three tables of 768 zeros. An answer begins with the refusal's number, table and place; the numbers asked for
 -- follow, f32s as their 32 bits.
 -- Assumes nothing.
-use Rattle.std.specs.Prelude.{ℕ, ◌+◌, ◌-◌, cond, List, [], ◌∷◌, ◌++◌, map, eqb, ℤ, pos, negsuc, Float, replicate, take}
+use Rattle.std.specs.Prelude.{ℕ, ◌-◌, cond, List, [], ◌∷◌, ◌++◌, map, eqb, ℤ, pos, negsuc, Float, replicate, take}
 use Rattle.std.specs.Float.{binary32}
 use Rattle.std.specs.Float.Ieee.{to_bits}
 use Rattle.exact.specs.Dyadic.{plus_zero}
