@@ -1,12 +1,12 @@
 -- One field of an image set to zero: what the field then holds is 0, the other bits of its word stay, and so does every other word.
 -- Assumes nothing.
 use Prim.Native.Nat.{ℕ, suc, ◌+◌, ◌-◌, ◌*◌, ◌/◌, ◌%◌, ◌^◌, ◌≤◌, ◌<◌}
-use mathlib.Core.Path.{◌≡◌, refl, sym, ap, ◌∙◌}
+use mathlib.Core.Path.{◌≡◌, sym, ap, ◌∙◌}
 use mathlib.Core.List.{List}
 use native.Mathlib.Nat.{lt_of_lt_of_le, mod-lt, mul_assoc, zero-mul, zero-mod, mul-add-div_right, mul-add-mod_self_right, div-eq_of_lt, mod-mod}
 use native.Mathlib.Omega.{arith}
 use borrow.Author.Tests.{lt-ltb, le-leb}
-use lib.IntN.{ℤ, pos}
+use lib.IntN.{pos}
 use lib.ListN.{length, get_or, set, length-set}
 use lib.Pow.{pow_pos, pow_mono, pow-add}
 use lib.Seq.{get_or-set_same, get_or-set_other}

@@ -1,7 +1,7 @@
 -- What fails and what is entered, from the parts: 0 stands for what a table doesn't have, and 0 is inside 16 bits.
 -- Assumes nothing.
 use Prim.Native.Nat.{ℕ}
-use mathlib.Core.Path.{◌≡◌, refl, sym, ap, ◌∙◌}
+use mathlib.Core.Path.{◌≡◌, refl, sym, ap}
 use mathlib.Core.Bool.{Bool, true, false, cond}
 use mathlib.Core.List.{[], ◌∷◌}
 use native.Mathlib.Omega.{arith}
@@ -12,7 +12,6 @@ use Rattle.util.specs.Sums.{in16}
 use Rattle.explanation.specs.Explanation.{shared_parts, kta_parts, parts_in, exponent_in, entry_in, step_names, first_named, failure_in}
 use Rattle.explanation.specs.Inner.From.{tested_sum, failure_from, entry_from}
 use Rattle.explanation.specs.declared.Parts.{Parts}
-use Rattle.explanation.specs.declared.Failure.{Failure}
 use Rattle.explanation.specs.declared.Failure.TheVariants.{Nothing, Row, Column, Remainder, Sum}
 use Rattle.explanation.proofs.Terms.{steps-named, offset-adds-up, alpha-adds-up, kta-adds-up}
 
