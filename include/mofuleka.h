@@ -1,4 +1,4 @@
-/* mofuleka.h: the C interface of libmofuleka.a (rt staticlib mofuleka).
+/* mofuleka.h: the C interface of libmofuleka.a (rust/archive).
  *
  * Decodes the calibration of an MLX90640 thermal camera from its EEPROM image, explains where its numbers come from and
  * why an image is refused, gathers such an image from blocks, and answers questions about pixels, read ranges and

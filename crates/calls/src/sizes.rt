@@ -17,8 +17,8 @@ fn size_at(n: u16) -> usize {
         3 => mofuleka_k_ta_table_bytes(),
         4 => mofuleka_record_bytes(),
         5 => mofuleka_gathering_bytes(),
-        6 => mofuleka_pixel_bytes(),
-        _ => mofuleka_explanation_bytes(),
+        7 => mofuleka_explanation_bytes(),
+        _ => mofuleka_pixel_bytes(),
     }
 }
 

@@ -19,12 +19,12 @@ use Rattle.walk.specs.Walk.{walk}
 use Rattle.tables.specs.Entries.{offset_at, alpha_at, kta_at}
 use Rattle.walk.proofs.Before.{running_walk, still-accepted, refused-with-4}
 use Rattle.eeprom.specs.Image.{image_words}
-use Rattle.eeprom.specs.Decoding.{ordered_averages, tables_short, refusal_of, answered, decoded_of, table_after}
+use Rattle.eeprom.specs.Decoding.{in_order, tables_short, refusal_of, answered, decoded_of, table_after}
 use Rattle.eeprom.proofs.Refusals.{accepted-exactly}
 
 -- the refusal by the old rule
 abbrev pub running_refusal : List ℕ → ℕ → ℕ → ℕ → Refusal
-running_refusal image l m n = ordered_averages image (tables_short l m n) (first_outside (running_walk (image_words image)))
+running_refusal image l m n = in_order image (tables_short l m n) (first_outside (running_walk (image_words image)))
 
 -- what both rules answer, and what they leave in the three tables, is the same
 pub record SameAnswer (image : List ℕ) (l m n : ℕ) : Type 0 where

@@ -13,12 +13,12 @@ use Rattle.eeprom.specs.Image.{image_words}
 use Rattle.eeprom.specs.declared.Decoded.{Decoded}
 
 -- the order of the refusals, whatever is lent: 1 for every length of the image but 1,664, 2 where a lent slice is too short, then what is found in the image
-abbrev pub ordered_averages : List ℕ → Bool → Refusal → Refusal
-ordered_averages image short found = cond (eqb (length image) 1664) (cond short ShortSlice found) ImageLength
+abbrev pub in_order : List ℕ → Bool → Refusal → Refusal
+in_order image short found = cond (eqb (length image) 1664) (cond short ShortSlice found) ImageLength
 
 -- what the walk finds is 3 or 4
 abbrev pub decoder_refusal : List ℕ → Bool → Refusal
-decoder_refusal image short = ordered_averages image short (first_outside (walk (image_words image)))
+decoder_refusal image short = in_order image short (first_outside (walk (image_words image)))
 
 -- that one of three tables with room for l, m and n entries is too short
 abbrev pub tables_short : ℕ → ℕ → ℕ → Bool
