@@ -7,7 +7,7 @@ use Prim.Native.Nat.{ℕ, ◌+◌, ◌*◌, ◌/◌, ◌%◌, ◌^◌, ◌<◌}
 use native.Mathlib.Omega.{arith}
 use lib.ListN.{get_or, replicate}
 use lib.IntN.{ℤ, pos}
-use Rattle.refusal.specs.declared.Refusal.TheVariants.{None}
+use Rattle.refusal.specs.Code.{accepted}
 use Rattle.util.specs.Words.{field}
 use Rattle.util.specs.Sums.{in16}
 use Rattle.walk.specs.Parts.{column_term, row_sum, whole_sum, kta_average, kta_sum}
@@ -34,7 +34,7 @@ pub kta-columns-fit : (w : ℕ → ℕ) (columns : List ℤ) → ((i : ℕ) → 
 kta-columns-fit w columns ec i h = rw (ec i h) (small (kta_average w i) (omega (arith, kta-average-size w i)))
 
 -- ---- what the walk has tested
-module _ (w : ℕ → ℕ) (e : first_outside (walk w) ≡ None) where
+module _ (w : ℕ → ℕ) (e : first_outside (walk w) ≡ accepted) where
   inside : (p : ℕ) → p < 768 → PixelInside w p
   inside = (walk-accepts w).0 e
 

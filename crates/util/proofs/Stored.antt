@@ -2,13 +2,16 @@
 -- Assumes nothing.
 use mathlib.Core.Path.{◌≡◌, refl, sym, ap, ◌∙◌}
 use mathlib.Core.List.{List, [], ◌∷◌, ◌++◌, append_assoc, append-nil}
-use Prim.Native.Nat.{ℕ, suc, ◌+◌, ◌*◌, ◌≤◌, ◌<◌}
+use Prim.Native.Nat.{ℕ, suc, ◌+◌, ◌-◌, ◌*◌, ◌/◌, ◌%◌, ◌^◌, ◌≤◌, ◌<◌}
 use native.Mathlib.Nat.{add-zero, zero-add, suc-mul, zero-mul}
 use native.Mathlib.Numerals.{add-one}
 use native.Mathlib.Omega.{arith}
 use lib.ListN.{length, set, take, drop, get_or, length-append, length-take}
-use lib.Seq.{sets, sets-eq, take-suc, drop-length}
-use Rattle.util.specs.Bytes.{flat}
+use lib.Seq.{sets, sets-eq, take-suc, drop-length, drop-drop}
+use mir.Syntax.{w16, w32}
+use borrow.Rule.Slice.PartMut.{put_mid}
+use Rattle.std.specs.Int.{to_be_bytes}
+use Rattle.util.specs.Bytes.{two, four, flat}
 
 -- a piece after a piece is one piece
 pub sets-append : (p q l : List ℕ) (i : ℕ) → sets l i (p ++ q) ≡ sets (sets l i p) (i + length p) q
@@ -42,16 +45,26 @@ module _ {A : Type 0} (f : A → List ℕ) where
         let place : n ≡ at + length (flat f (take i a)) = rw (flat-length, long) e in
         rw (more, flat_append, flat-one, sets-append, place)
 
--- one turn of a loop that stores bytes
-pub turn_byte : (l : List ℕ) (at i : ℕ) (a : List ℕ) → i < length a → set (sets l at (take i a)) (at + i) (get_or a i 0) ≡ sets l at (take (i + 1) a)
-turn_byte l at i a h =
-    let more : take (i + 1) a ≡ take i a ++ (get_or a i 0 ∷ []) = rw add-one (take-suc a i 0 h) in
-    let long : length (take i a) ≡ i = simp length-take (omega arith) in
-    rw (more, sets-append, long)
-
 -- a piece as long as what it is stored over is all that is left
 pub sets-whole : (l p : List ℕ) → length l ≡ length p → sets l 0 p ≡ p
 sets-whole l p e =
     let room : 0 + length p ≤ length l = omega arith in
     let gone : drop (0 + length p) l ≡ [] = ap (λ (n : ℕ). drop n l) (zero-add (length p) ∙ sym e) ∙ drop-length l in
     sets-eq p l 0 room ∙ (ap (λ (t : List ℕ). p ++ t) gone ∙ append-nil p)
+
+-- a piece copied over the part of l from place at to place e
+pub copied : (l p q : List ℕ) (at e : ℕ) → q ≡ p → e ≡ at + length p → e ≤ length l → put_mid at (e - at) l q ≡ sets l at p
+copied l p q at e same end room =
+    let long : e - at ≡ length p = omega arith in
+    let fits : at + length p ≤ length l = omega arith in
+    let past : drop (length p) (drop at l) ≡ drop (at + length p) l = drop-drop (length p) at l in
+    rw (same, long, past) (sym (append_assoc (take at l) p (drop (at + length p) l)) ∙ sym (sets-eq p l at fits))
+
+-- the machine's bytes of a number are the definition's
+pub two-are : (v : ℕ) → v < 2 ^ 16 → to_be_bytes w16 v ≡ two v
+unfolding two
+two-are v h = let e : v / 256 % 256 ≡ v / 256 = omega arith in rw e
+
+pub four-are : (v : ℕ) → v < 2 ^ 32 → to_be_bytes w32 v ≡ four v
+unfolding four
+four-are v h = let e : v / 0x100_0000 % 256 ≡ v / 0x100_0000 = omega arith in rw e

@@ -8,11 +8,11 @@ use Prim.Native.Nat.{ℕ, zero, suc, ◌+◌, ◌/◌, ◌%◌, ◌<◌, suc-le-
 use native.Mathlib.Nat.{add-zero, zero-add}
 use native.Mathlib.Omega.{arith}
 use lib.Dec.{eqb, leb, ltb}
+use Rattle.std.specs.Prelude.{Err}
 use Rattle.refusal.specs.declared.Table.{Table}
 use Rattle.refusal.specs.declared.Table.TheVariants.{Offset, Alpha, Kta}
-use Rattle.refusal.specs.declared.Refusal.{Refusal}
-use Rattle.refusal.specs.declared.Refusal.TheVariants.{None, SumOutside}
-use Rattle.refusal.specs.Code.{code_of, accepted_by, or_else}
+use Rattle.refusal.specs.declared.Refusal.TheVariants.{SumOutside}
+use Rattle.refusal.specs.Code.{code_of, accepted_by, or_else, Verdict, accepted}
 use Rattle.util.specs.Sums.{in16}
 use Rattle.steps.specs.Steps.{Step, term, sum, first_outside, AllInside, steps_from}
 use Rattle.refusal.proofs.Order.{or-refused, or-passed}
@@ -47,16 +47,16 @@ still-inside w Offset p a = (a.0, (a.1.1.0, (a.1.1.1.1.0, (a.1.1.1.1.1.0, tt))))
 still-inside w Alpha p a = (a.0, (a.1.1.0, (a.1.1.1.1.0, tt)))
 still-inside w Kta p a = a
 
-pub still-accepted : (w : ℕ → ℕ) → first_outside (running_walk w) ≡ None → first_outside (walk w) ≡ None
+pub still-accepted : (w : ℕ → ℕ) → first_outside (running_walk w) ≡ accepted → first_outside (walk w) ≡ accepted
 unfolding running_walk
 still-accepted w e =
     calm_walk w (λ t p h. inside-accepted (pixel_steps w t p) (still-inside w t p (accepted-inside (running_steps w t p) (pixels-calm (running_steps w) e t p h))))
 
 -- ---- what is accepted now was refused, if at all, with 4
-abbrev pub OnlyFor4 : Refusal → Type 0
+abbrev pub OnlyFor4 : Verdict → Type 0
 OnlyFor4 r = accepted_by r ≡ false → (code_of r).number ≡ 4
 
-only-either : (a b : Refusal) → OnlyFor4 a → OnlyFor4 b → OnlyFor4 (or_else a b)
+only-either : (a b : Verdict) → OnlyFor4 a → OnlyFor4 b → OnlyFor4 (or_else a b)
 only-either a b f g = go (accepted_by a) refl
   where
     go : (d : Bool) → accepted_by a ≡ d → OnlyFor4 (or_else a b)
@@ -72,7 +72,7 @@ only-steps f (suc n) p h =
     (only-either (first_outside (f p)) (first_outside (steps_from f n (p + 1))) (rw e at (h 0 (omega arith)))
     (only-steps f n (p + 1) (λ k l. let d : p + 1 + k ≡ p + suc k = omega arith in rw d (h (suc k) (suc-le-suc l)))))
 
-one-sum : (t : Table) (p : ℕ) (b : Bool) (r : Refusal) → OnlyFor4 r → OnlyFor4 (cond b r (SumOutside t p))
+one-sum : (t : Table) (p : ℕ) (b : Bool) (r : Verdict) → OnlyFor4 r → OnlyFor4 (cond b r (Err (SumOutside t p)))
 one-sum t p true r f = f
 one-sum t p false r f = λ e. refl
 
@@ -81,16 +81,16 @@ unfolding AllInside running_steps running_bulk pixel_steps term_steps first_outs
 only-pixel w Offset p a =
     rw (a.0, a.1.0, a.1.1.0)
     (one-sum Offset p (in16 (row_sum w 0x10 (p / 32))) _
-    (one-sum Offset p (in16 (column_sum w 0x10 p)) _ (one-sum Offset p (in16 (whole_sum w 0x10 10 p)) None (λ e. cc))))
+    (one-sum Offset p (in16 (column_sum w 0x10 p)) _ (one-sum Offset p (in16 (whole_sum w 0x10 10 p)) accepted (λ e. cc))))
 only-pixel w Alpha p a =
     rw (a.0, a.1.0, a.1.1.0)
-    (one-sum Alpha p (in16 (row_sum w 0x20 (p / 32))) _ (one-sum Alpha p (in16 (column_sum w 0x20 p)) None (λ e. cc)))
-only-pixel w Kta p a = rw a.0 (one-sum Kta p (in16 (kta_sum w p)) None (λ e. cc))
+    (one-sum Alpha p (in16 (row_sum w 0x20 (p / 32))) _ (one-sum Alpha p (in16 (column_sum w 0x20 p)) accepted (λ e. cc)))
+only-pixel w Kta p a = rw a.0 (one-sum Kta p (in16 (kta_sum w p)) accepted (λ e. cc))
 
 abbrev before : (ℕ → ℕ) → Table → List Step
 before w t = steps_from (running_steps w t) 768 0
 
-pub refused-with-4 : (w : ℕ → ℕ) → first_outside (walk w) ≡ None → OnlyFor4 (first_outside (running_walk w))
+pub refused-with-4 : (w : ℕ → ℕ) → first_outside (walk w) ≡ accepted → OnlyFor4 (first_outside (running_walk w))
 unfolding running_walk
 refused-with-4 w e =
     rw (first-append (before w Offset) (before w Alpha ++ before w Kta), first-append (before w Alpha) (before w Kta))
@@ -103,10 +103,10 @@ refused-with-4 w e =
 abbrev pub returning : ℕ → ℕ
 returning n = cond (eqb n 0x11) 0x7FFF (cond (leb 0x12 n) (cond (ltb n 0x18) 0x1111 (cond (ltb n 0x20) 0xFFFF 0)) 0)
 
-pub once-refused : first_outside (running_walk returning) ≡ SumOutside Offset 0
+pub once-refused : first_outside (running_walk returning) ≡ Err (SumOutside Offset 0)
 unfolding running_walk steps_from running_steps running_bulk first_outside in16 row_sum column_sum whole_sum kta_sum
 once-refused = refl
 
-pub now-accepted : first_outside (walk returning) ≡ None
+pub now-accepted : first_outside (walk returning) ≡ accepted
 unfolding walk table_steps steps_from pixel_steps term_steps first_outside in16 row_sum column_sum whole_sum kta_sum
 now-accepted = refl

@@ -7,8 +7,8 @@ use Prim.Native.Nat.{ℕ, ◌+◌, ◌*◌, ◌/◌, ◌%◌, ◌^◌, ◌≤◌
 use native.Mathlib.Nat.{mul-le-mul_left, mul-le-mul_right, le_trans}
 use native.Mathlib.Omega.{arith}
 use lib.IntN.{nat_abs, ◌+ℤ◌}
+use Rattle.refusal.specs.Code.{accepted}
 use Rattle.refusal.specs.declared.Table.TheVariants.{Offset, Alpha, Kta}
-use Rattle.refusal.specs.declared.Refusal.TheVariants.{None}
 use Rattle.util.specs.Words.{field}
 use Rattle.util.specs.Sums.{in16, term_of}
 use Rattle.walk.specs.Parts.{nibble, average, row_term, column_term, remainder_term, row_sum, column_sum, whole_sum, kta_average, kta_term, kta_sum}
@@ -43,11 +43,11 @@ module _ (w : ℕ → ℕ) (calm : CalmOffset w) (p : ℕ) (h : p < 768) where
     ),
   )
 
-pub calm-offset : (w : ℕ → ℕ) → CalmOffset w → first_outside (table_steps w Offset) ≡ None
+pub calm-offset : (w : ℕ → ℕ) → CalmOffset w → first_outside (table_steps w Offset) ≡ accepted
 calm-offset w calm = calm-table w Offset (λ p h. inside-accepted (pixel_steps w Offset p) (offset-inside w calm p h))
 
 -- ---- alpha
-pub calm-alpha : (w : ℕ → ℕ) → CalmAlpha w → first_outside (table_steps w Alpha) ≡ None
+pub calm-alpha : (w : ℕ → ℕ) → CalmAlpha w → first_outside (table_steps w Alpha) ≡ accepted
 unfolding AllInside pixel_steps term_steps
 calm-alpha w calm = calm-table w Alpha (λ p h. inside-accepted (pixel_steps w Alpha p) (all p h))
   where
@@ -62,7 +62,7 @@ calm-alpha w calm = calm-table w Alpha (λ p h. inside-accepted (pixel_steps w A
         )
 
 -- ---- Kta
-pub calm-kta : (w : ℕ → ℕ) → CalmKta w → first_outside (table_steps w Kta) ≡ None
+pub calm-kta : (w : ℕ → ℕ) → CalmKta w → first_outside (table_steps w Kta) ≡ accepted
 unfolding AllInside pixel_steps kta_sum
 calm-kta w calm = calm-table w Kta (λ p h. inside-accepted (pixel_steps w Kta p) (all p))
   where

@@ -1,6 +1,5 @@
 pub mod Walked
 pub mod Sizes
-pub mod Listed
 pub mod Bound
 pub mod Glance
 pub mod Before

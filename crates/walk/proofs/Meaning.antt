@@ -7,9 +7,11 @@ use mathlib.Core.Bool.{true}
 use mathlib.Core.List.{List, [], ◌∷◌, ◌++◌}
 use Prim.Native.Nat.{ℕ, zero, suc, ◌+◌, ◌/◌, ◌%◌, ◌<◌}
 use native.Mathlib.Omega.{arith}
+use Rattle.std.specs.Prelude.{Err}
+use Rattle.refusal.specs.Code.{accepted}
 use Rattle.refusal.specs.declared.Table.{Table}
 use Rattle.refusal.specs.declared.Table.TheVariants.{Offset, Alpha, Kta}
-use Rattle.refusal.specs.declared.Refusal.TheVariants.{None, SumOutside}
+use Rattle.refusal.specs.declared.Refusal.TheVariants.{SumOutside}
 use Rattle.util.specs.Sums.{in16}
 use Rattle.steps.specs.Steps.{Step, term, sum, refusal_in, first_outside, steps_from, AllInside, FirstIs}
 use Rattle.steps.proofs.Meaning.{accepted-inside, inside-accepted}
@@ -30,11 +32,11 @@ pub record PixelInside (w : ℕ → ℕ) (p : ℕ) : Type 0 where
   pub kta_term_fits : in16 (kta_term w p) ≡ true
   pub kta : in16 (kta_sum w p) ≡ true
 
-pub walk-accepts : (w : ℕ → ℕ) → (first_outside (walk w) ≡ None) ↔ ((p : ℕ) → p < 768 → PixelInside w p)
+pub walk-accepts : (w : ℕ → ℕ) → (first_outside (walk w) ≡ accepted) ↔ ((p : ℕ) → p < 768 → PixelInside w p)
 unfolding AllInside pixel_steps term_steps
 walk-accepts w = (to, from)
   where
-    to : first_outside (walk w) ≡ None → (p : ℕ) → p < 768 → PixelInside w p
+    to : first_outside (walk w) ≡ accepted → (p : ℕ) → p < 768 → PixelInside w p
     to e p h =
         let o = accepted-inside (pixel_steps w Offset p) (walk-calm w e Offset p h) in
         let a = accepted-inside (pixel_steps w Alpha p) (walk-calm w e Alpha p h) in
@@ -52,7 +54,7 @@ walk-accepts w = (to, from)
     inside Alpha p i = let t = i.alpha_terms in (t.row, (t.column, (t.remainder, tt)))
     inside Kta p i = (i.kta_term_fits, (i.kta, tt))
 
-    from : ((p : ℕ) → p < 768 → PixelInside w p) → first_outside (walk w) ≡ None
+    from : ((p : ℕ) → p < 768 → PixelInside w p) → first_outside (walk w) ≡ accepted
     from i = calm_walk w (λ t p h. inside-accepted (pixel_steps w t p) (inside t p (i p h)))
 
 -- ---- refused for a sum
@@ -99,11 +101,11 @@ module _ (w : ℕ → ℕ) where
       named-joined (table_steps w Offset) (table_steps w Alpha ++ table_steps w Kta) (named-from Offset 768 0)
       (named-joined (table_steps w Alpha) (table_steps w Kta) (named-from Alpha 768 0) (named-from Kta 768 0))
 
-  pub final-sum : (t : Table) (p : ℕ) (f : FirstIs (walk w) (SumOutside t p)) → Final t p f.step
+  pub final-sum : (t : Table) (p : ℕ) (f : FirstIs (walk w) (Err (SumOutside t p))) → Final t p f.step
   unfolding Named
   final-sum t p f = go f.step f.refuses (named_in f.before f.step f.after (subst AllNamed f.split named-walk))
     where
-      go : (s : Step) → refusal_in s ≡ SumOutside t p → Named s → Final t p s
+      go : (s : Step) → refusal_in s ≡ Err (SumOutside t p) → Named s → Final t p s
       go (term u q z) e n = let z : ◌≡◌ {A = ℕ} 0 1 = cc in absurd (omega arith)
       go (sum u q z) e n =
           let table : u ≡ t = cc in

@@ -55,6 +55,9 @@ pub term-size : (x low width y bit : ℕ) → 0 < width → nat_abs (term_of (si
 term-size x low width y bit h =
     rw (size-times (signed_field x low width) (2 ^ field y bit 4)) (mul-le-mul_right (2 ^ field y bit 4) (field-size x low width h))
 
+pub nibble-size : (w : ℕ → ℕ) (first k : ℕ) → nat_abs (nibble w first k) ≤ 32768
+nibble-size w first k = omega (arith, field-size (w (first + k / 4)) (4 * (k % 4)) 4 (lit< tt))
+
 pub nibble-term : (w : ℕ → ℕ) (first k x low : ℕ) → nat_abs (term_of (nibble w first k) (field x low 4)) ≤ 0x40000
 nibble-term w first k x low = le_trans (term-size (w (first + k / 4)) (4 * (k % 4)) 4 x low (lit< tt)) (mul-le-mul_left 8 (power_size x low))
 

@@ -4,10 +4,9 @@ use mathlib.Core.Path.{◌≡◌, ap, ◌∙◌}
 use mathlib.Core.List.{List, ◌++◌}
 use Prim.Native.Nat.{ℕ, ◌<◌}
 use native.Mathlib.Nat.{zero-add}
-use Rattle.refusal.specs.Code.{or_else}
+use Rattle.refusal.specs.Code.{or_else, accepted}
 use Rattle.refusal.specs.declared.Table.{Table}
 use Rattle.refusal.specs.declared.Table.TheVariants.{Offset, Alpha, Kta}
-use Rattle.refusal.specs.declared.Refusal.TheVariants.{None}
 use Rattle.steps.specs.Steps.{Step, first_outside, steps_from}
 use Rattle.walk.specs.Walk.{pixel_steps, table_steps, walk}
 use Rattle.steps.proofs.Order.{first-append}
@@ -20,31 +19,31 @@ walk-order w = first-append (table_steps w Offset) (table_steps w Alpha ++ table
 
 -- no pixel of a table has a fault
 abbrev pub Calm : (ℕ → ℕ) → Table → Type 0
-Calm w t = (p : ℕ) → p < 768 → first_outside (pixel_steps w t p) ≡ None
+Calm w t = (p : ℕ) → p < 768 → first_outside (pixel_steps w t p) ≡ accepted
 
-pub calm-table : (w : ℕ → ℕ) (t : Table) → Calm w t → first_outside (table_steps w t) ≡ None
+pub calm-table : (w : ℕ → ℕ) (t : Table) → Calm w t → first_outside (table_steps w t) ≡ accepted
 unfolding table_steps
 calm-table w t h = pixels-none (pixel_steps w t) 768 0 (λ k l. rw (zero-add k) (h k l))
 
-pub calm_walk : (w : ℕ → ℕ) → ((t : Table) → Calm w t) → first_outside (walk w) ≡ None
+pub calm_walk : (w : ℕ → ℕ) → ((t : Table) → Calm w t) → first_outside (walk w) ≡ accepted
 unfolding walk
 calm_walk w h =
     none-joined (table_steps w Offset) (table_steps w Alpha ++ table_steps w Kta) (calm-table w Offset (h Offset))
     (none-joined (table_steps w Alpha) (table_steps w Kta) (calm-table w Alpha (h Alpha)) (calm-table w Kta (h Kta)))
 
 -- the other way, for any steps of the pixels
-pub pixels-calm : (f : Table → ℕ → List Step) → first_outside (steps_from (f Offset) 768 0 ++ (steps_from (f Alpha) 768 0 ++ steps_from (f Kta) 768 0)) ≡ None
-    → (t : Table) (p : ℕ) → p < 768 → first_outside (f t p) ≡ None
+pub pixels-calm : (f : Table → ℕ → List Step) → first_outside (steps_from (f Offset) 768 0 ++ (steps_from (f Alpha) 768 0 ++ steps_from (f Kta) 768 0)) ≡ accepted
+    → (t : Table) (p : ℕ) → p < 768 → first_outside (f t p) ≡ accepted
 pixels-calm f e t p h = rw (← zero-add p) (pixel-none (f t) 768 0 p (own t) h)
   where
-    rest : (first_outside (steps_from (f Alpha) 768 0) ≡ None) × (first_outside (steps_from (f Kta) 768 0) ≡ None)
+    rest : (first_outside (steps_from (f Alpha) 768 0) ≡ accepted) × (first_outside (steps_from (f Kta) 768 0) ≡ accepted)
     rest = none-append (steps_from (f Alpha) 768 0) (steps_from (f Kta) 768 0) (none-append (steps_from (f Offset) 768 0) (steps_from (f Alpha) 768 0 ++ steps_from (f Kta) 768 0) e).1
 
-    own : (t : Table) → first_outside (steps_from (f t) 768 0) ≡ None
+    own : (t : Table) → first_outside (steps_from (f t) 768 0) ≡ accepted
     own Offset = (none-append (steps_from (f Offset) 768 0) (steps_from (f Alpha) 768 0 ++ steps_from (f Kta) 768 0) e).0
     own Alpha = rest.0
     own Kta = rest.1
 
-pub walk-calm : (w : ℕ → ℕ) → first_outside (walk w) ≡ None → (t : Table) → Calm w t
+pub walk-calm : (w : ℕ → ℕ) → first_outside (walk w) ≡ accepted → (t : Table) → Calm w t
 unfolding walk table_steps
 walk-calm w e = pixels-calm (pixel_steps w) e

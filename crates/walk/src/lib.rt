@@ -9,6 +9,7 @@ ghost use Rattle.steps.specs.Steps.{first_outside};
 ghost use Rattle.walk.specs.Walk.{walk, table_steps};
 
 mod calm;
+mod glances;
 mod pixel;
 mod rows;
 mod shared;
@@ -16,8 +17,9 @@ mod terms;
 
 use calm::{calm_alpha, calm_k_ta, calm_offset};
 use camera::{OFFSET_COMPENSATION, SENSITIVITY_SCALE, V_AND_TA_SCALE};
+use glances::Glance;
 pub use pixel::{fault_of, k_ta_terms, shared_terms};
-use refusal::{Refusal, Table, accepted};
+use refusal::{Table, Verdict};
 use rows::{shared_fitting, table_refusal};
 pub use shared::{column_terms, k_ta_columns, row_sums};
 pub use terms::{k_ta_average_low, k_ta_average_word, scale_power, scaled};
@@ -32,57 +34,81 @@ pub struct PixelTerms {
 }
 
 // The first fault of the offset table.
-fn offset_refusal(words: &[u16; 832]) -> Refusal
+fn offset_refusal(words: &[u16; 832]) -> Verdict
     ensures { result ≡ first_outside (table_steps (listed words.now) Offset) }
 {
     if calm_offset(words) {
-        return Refusal::None;
+        return Ok(());
     }
-    let n = shared_fitting(words, OFFSET_COMPENSATION);
+    let vouched = shared_fitting(words, OFFSET_COMPENSATION);
     let rows = row_sums(words, OFFSET_COMPENSATION);
     let columns = column_terms(words, OFFSET_COMPENSATION);
     let power = scale_power(words, OFFSET_COMPENSATION, 0);
-    table_refusal(words, Table::Offset, n, &rows, &columns, 10, 6, power)
+    let glance = Glance {
+        words,
+        table: Table::Offset,
+        vouched,
+        rows: &rows,
+        columns: &columns,
+        low: 10,
+        width: 6,
+        power,
+    };
+    table_refusal(&glance)
 }
 
 // The first fault of the alpha table. It has no sum to test, so the glance at its rows is given zeros.
-fn alpha_refusal(words: &[u16; 832]) -> Refusal
+fn alpha_refusal(words: &[u16; 832]) -> Verdict
     ensures { result ≡ first_outside (table_steps (listed words.now) Alpha) }
 {
     if calm_alpha(words) {
-        return Refusal::None;
+        return Ok(());
     }
-    let n = shared_fitting(words, SENSITIVITY_SCALE);
+    let vouched = shared_fitting(words, SENSITIVITY_SCALE);
     let rows = [0; 24];
     let columns = [0; 64];
     let power = scale_power(words, SENSITIVITY_SCALE, 0);
-    table_refusal(words, Table::Alpha, n, &rows, &columns, 4, 6, power)
+    let glance = Glance {
+        words,
+        table: Table::Alpha,
+        vouched,
+        rows: &rows,
+        columns: &columns,
+        low: 4,
+        width: 6,
+        power,
+    };
+    table_refusal(&glance)
 }
 
 // The first fault of the Kta table.
-fn k_ta_refusal(words: &[u16; 832]) -> Refusal
+fn k_ta_refusal(words: &[u16; 832]) -> Verdict
     ensures { result ≡ first_outside (table_steps (listed words.now) Kta) }
 {
     if calm_k_ta(words) {
-        return Refusal::None;
+        return Ok(());
     }
     let rows = [0; 24];
     let columns = k_ta_columns(words);
     let power = scale_power(words, V_AND_TA_SCALE, 0);
-    table_refusal(words, Table::Kta, 24, &rows, &columns, 1, 3, power)
+    let glance = Glance {
+        words,
+        table: Table::Kta,
+        vouched: 24,
+        rows: &rows,
+        columns: &columns,
+        low: 1,
+        width: 3,
+        power,
+    };
+    table_refusal(&glance)
 }
 
 // The first fault of the walk: offset table, then alpha, then Kta.
-pub fn first_refusal(words: &[u16; 832]) -> Refusal
+pub fn first_refusal(words: &[u16; 832]) -> Verdict
     ensures { result ≡ first_outside (walk (listed words.now)) }
 {
-    let offset = offset_refusal(words);
-    if !accepted(offset) {
-        return offset;
-    }
-    let alpha = alpha_refusal(words);
-    if !accepted(alpha) {
-        return alpha;
-    }
+    offset_refusal(words)?;
+    alpha_refusal(words)?;
     k_ta_refusal(words)
 }

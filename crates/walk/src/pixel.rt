@@ -11,7 +11,7 @@ use camera::{
     AVERAGE, COLUMNS, OFFSET_COMPENSATION, PIXEL_CALIBRATION, ROWS, SENSITIVITY_SCALE,
     V_AND_TA_SCALE,
 };
-use refusal::{Refusal, Table};
+use refusal::{Table, Verdict};
 use steps::first_of;
 use util::{i16_from_bits, term};
 
@@ -58,7 +58,7 @@ pub fn k_ta_terms(average: u16, scales: u16, own: u16, p: usize) -> PixelTerms
 
 // The first fault of a pixel with these terms in a table. 0 is handed over for what a table has not: alpha a sum to test, Kta a row and a column.
 #[tactic(auto, unfolding(steps::specs::Steps::first_outside, util::specs::Sums::in16))]
-pub fn fault_of(table: Table, p: u32, terms: PixelTerms) -> Refusal
+pub fn fault_of(table: Table, p: u32, terms: PixelTerms) -> Verdict
     ensures { result ≡ first_outside (steps_for table p terms) }
 {
     match table {
@@ -85,6 +85,7 @@ fn terms_at(words: &[u16; 832], base: usize, low: u32, p: usize) -> PixelTerms
 }
 
 // The same of Kta.
+// That a pixel is below 768 is a clause here and wherever one is named by number: a type for it would be taken off again for each word's number that is made of it.
 fn k_ta_terms_at(words: &[u16; 832], p: usize) -> PixelTerms
     requires { p < 768 }
     ensures { result ≡ kta_terms (listed words.now) p }
@@ -98,7 +99,7 @@ fn k_ta_terms_at(words: &[u16; 832], p: usize) -> PixelTerms
 }
 
 // The first fault of pixel p of a table.
-pub(crate) fn pixel(words: &[u16; 832], table: Table, p: usize) -> Refusal
+pub(crate) fn pixel(words: &[u16; 832], table: Table, p: usize) -> Verdict
     requires { p < 768 }
     ensures { result ≡ first_outside (pixel_steps (listed words.now) table p) }
 {

@@ -3,9 +3,20 @@ ghost use Rattle.std.specs.Prelude.{◌≡◌, ℕ, ◌<◌, ◌≤◌, ◌%◌,
 ghost use Rattle.util.specs.Words.{listed};
 ghost use Rattle.walk.specs.Parts.{row_sum, column_term, kta_average};
 
-use crate::terms::{bulk_term, k_ta_average};
-use camera::{AVERAGE, COLUMNS, ROWS};
+use crate::terms::{COLUMN_BULK, ROW_BULK, bulk_term, k_ta_average};
+use camera::AVERAGE;
+use std::array;
 use util::i16_from_bits;
+
+// The average with the term of row r.
+// So with rows below 24 and with base, a table's place among the words: one clause each, which a type of their own would not shorten.
+fn row_sum(words: &[u16; 832], base: usize, r: usize) -> i32
+    requires { (base ≤ 32) × (r < 24) }
+    ensures { result ≡ row_sum (listed words.now) base r }
+{
+    let average = i32::from(i16_from_bits(words[base + AVERAGE], 0, 16));
+    average + bulk_term(words, base, ROW_BULK, r)
+}
 
 // The average with each row's term.
 pub fn row_sums(words: &[u16; 832], base: usize) -> [i32; 24]
@@ -13,14 +24,7 @@ pub fn row_sums(words: &[u16; 832], base: usize) -> [i32; 24]
     ensures by_index { (r : ℕ) → r < 24 → get_or result r (pos 0) ≡ row_sum (listed words.now) base r }
     ensures result_len { length result ≡ 24 }
 {
-    let average = i16_from_bits(words[base + AVERAGE], 0, 16) as i32;
-    let mut sums = [0; 24];
-    let mut r = 0;
-    while r < 24 {
-        sums[r] = average + bulk_term(words, base, ROWS, 8, r);
-        r += 1;
-    }
-    sums
+    array::from_fn(|r| row_sum(words, base, r))
 }
 
 // Each column's term, for even rows and again for odd ones.
@@ -30,12 +34,11 @@ pub fn column_terms(words: &[u16; 832], base: usize) -> [i32; 64]
     ensures result_len { length result ≡ 64 }
 {
     let mut terms = [0; 64];
-    let mut c = 0;
-    while c < 32 {
-        let term = bulk_term(words, base, COLUMNS, 4, c);
+    // A loop, and not array::from_fn with i % 32: those copies go one at a time, and a decode takes longer.
+    for c in 0..32 {
+        let term = bulk_term(words, base, COLUMN_BULK, c);
         terms[c] = term;
         terms[32 + c] = term;
-        c += 1;
     }
     terms
 }
@@ -45,17 +48,7 @@ pub fn k_ta_columns(words: &[u16; 832]) -> [i32; 64]
     ensures by_index { (i : ℕ) → i < 64 → get_or result i (pos 0) ≡ kta_average (listed words.now) i }
     ensures result_len { length result ≡ 64 }
 {
-    let order = [
-        k_ta_average(words, 0) as i32,
-        k_ta_average(words, 32) as i32,
-        k_ta_average(words, 1) as i32,
-        k_ta_average(words, 33) as i32,
-    ];
-    let mut averages = [0; 64];
-    let mut i = 0;
-    while i < 64 {
-        averages[i] = order[i / 32 + 2 * (i % 2)];
-        i += 1;
-    }
-    averages
+    // Pixels 0, 32, 1 and 33 have the four, in chessboard order.
+    let order: [i32; 4] = array::from_fn(|k| i32::from(k_ta_average(words, k % 2 * 32 + k / 2)));
+    array::from_fn(|i| order[i / 32 + 2 * (i % 2)])
 }

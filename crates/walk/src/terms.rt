@@ -5,8 +5,30 @@ ghost use Rattle.util.specs.Sums.{term_of};
 ghost use Rattle.util.specs.Pixels as pixels;
 ghost use Rattle.walk.specs.Parts.{nibble, kta_average};
 
-use camera::K_TA_AVERAGES;
+use camera::{COLUMNS, K_TA_AVERAGES, ROWS};
 use util::{i16_from_bits, power_of_two, term, u16_from_bits};
+
+// Where a table has the nibbles of its rows, or those of its columns: count of them from its word first on, with their scale from bit low of its word 0 up.
+#[derive(Clone, Copy)]
+pub(crate) struct Bulk {
+    pub first: usize,
+    pub low: u32,
+    pub count: usize,
+    ghost near: { first ≤ 8 },
+    ghost few: { count ≤ 32 },
+}
+
+pub(crate) const ROW_BULK: Bulk = Bulk {
+    first: ROWS,
+    low: 8,
+    count: 24,
+};
+
+pub(crate) const COLUMN_BULK: Bulk = Bulk {
+    first: COLUMNS,
+    low: 4,
+    count: 32,
+};
 
 // Signed nibble k of the words that x is one of: four to a word, the lowest in bits 3..0.
 pub(crate) fn nibble_in(x: u16, k: usize) -> i16
@@ -60,12 +82,16 @@ pub(crate) fn k_ta_average(words: &[u16; 832], p: usize) -> i16
     k_ta_average_in(words[k_ta_average_word(p)], p)
 }
 
-// The term of nibble k of the words from base + first on. Its scale stands in word base from bit low up.
-pub(crate) fn bulk_term(words: &[u16; 832], base: usize, first: usize, low: u32, k: usize) -> i32
-    requires { (base ≤ 32) × (first ≤ 8) × (k < 32) }
-    ensures { result ≡ term_of (nibble (listed words.now) (base + first) k) (field (listed words.now base) low 4) }
+// The term of nibble k of a bulk of the table whose words start at base.
+pub(crate) fn bulk_term(words: &[u16; 832], base: usize, bulk: Bulk, k: usize) -> i32
+    requires { (base ≤ 32) × (k < 32) }
+    ensures { result ≡ term_of (nibble (listed words.now) (base + bulk.first) k) (field (listed words.now base) bulk.low 4) }
 {
-    term(nibble_at(words, base + first, k), words[base], low)
+    term(
+        nibble_at(words, base + bulk.first, k),
+        words[base],
+        bulk.low,
+    )
 }
 
 // 2 to the power that stands in the four bits of word n from bit low up.
@@ -74,7 +100,7 @@ pub fn scale_power(words: &[u16; 832], n: usize, low: u32) -> u16
     ensures value { result ≡ 2 ^ field (listed words.now n) low 4 }
     ensures upper_bound { result ≤ 32768 }
 {
-    power_of_two(u16_from_bits(words[n], low, 4) as u32)
+    power_of_two(u32::from(u16_from_bits(words[n], low, 4)))
 }
 
 // f x power.
@@ -83,5 +109,5 @@ pub fn scaled(f: i16, power: u16) -> i32
     ensures value { result ≡ f *ℤ pos power }
     ensures result_bound { nat_abs result ≤ 0x40000000 }
 {
-    (f as i32) * (power as i32)
+    i32::from(f) * i32::from(power)
 }

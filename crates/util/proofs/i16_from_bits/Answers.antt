@@ -10,7 +10,7 @@ use Rattle.util.proofs.i16_from_bits.Goals as goal
 
 pub by_weight-requires : goal.by_weight-requires
 by_weight-requires c =
-    let w = c.clipped-bits.result in
+    let w = c.clamp-bits.result in
     rw (c.power_of_two.ensures, c.u16_from_bits.ensures) (weight-below w (omega arith), field_below c.args.x c.args.low w (omega arith))
 
 pub returns-clause-result_bound : goal.returns-clause-result_bound

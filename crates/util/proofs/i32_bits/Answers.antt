@@ -1,17 +1,9 @@
--- The bits turned over twice are the bits.
-use Rattle.std.proofs.Common.{refl, ap, ◌∙◌}
+-- The bits that the machine holds are those of the definition.
+use Rattle.std.proofs.Common.{refl, ◌∙◌}
 use mir.Syntax.{w32}
 use mir.Facts.{to_z-of_z}
-use lib.IntN.{nat_abs}
-use Rattle.util.proofs.Complement.{turned-over, plain}
+use Rattle.util.proofs.Complement.{complement-of}
 use Rattle.util.proofs.i32_bits.Goals as goal
 
-pub returns-then-x-lt0 : goal.returns-then-x-lt0
-returns-then-x-lt0 c =
-    let k = turned-over w32 0x1_0000_0000 0x8000_0000 refl refl (λ n. refl) c.args.x c.ranges.x (rw (to_z-of_z {w = w32} c.ranges.x) at c.if-x-lt0.true) in
-    rw k.1 k.3
-
-pub returns-else-x-lt0 : goal.returns-else-x-lt0
-returns-else-x-lt0 c =
-    let k = plain w32 0x1_0000_0000 0x8000_0000 refl refl (λ n. refl) c.args.x c.ranges.x (rw (to_z-of_z {w = w32} c.ranges.x) at c.if-x-lt0.false) in
-    rw (to_z-of_z {w = w32} c.ranges.x) (ap nat_abs k.1 ∙ k.3)
+pub returns : goal.returns
+returns c = rw (to_z-of_z {w = w32} c.ranges.x) at c.cast_unsigned.ensures ∙ complement-of w32 0x1_0000_0000 refl c.args.x

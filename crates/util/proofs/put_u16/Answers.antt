@@ -1,8 +1,12 @@
--- Two stores, one after the other, are one piece.
-use Rattle.std.proofs.Common.{◌≡◌, suc, ◌+◌, arith}
+-- The copied bytes are those of the definition.
+use Rattle.std.proofs.Common.{◌+◌, refl, ◌∙◌}
 use Rattle.util.specs.Bytes.{two}
+use Rattle.util.proofs.Stored.{copied, two-are}
 use Rattle.util.proofs.put_u16.Goals as goal
 
 pub returns : goal.returns
 unfolding two
-returns c = let e1 : c.args.at + 1 ≡ suc c.args.at = omega arith in rw e1
+returns c =
+    let at = c.args.at in
+    let bytes = c.copy_from_slice.ensures.after ∙ (c.to_be_bytes.ensures ∙ two-are c.args.v c.ranges.v.fits) in
+    copied c.args.out.now (two c.args.v) c.copy_from_slice.new.self at (at + 2) bytes refl c.requires

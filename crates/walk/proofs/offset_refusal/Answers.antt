@@ -8,15 +8,16 @@ use Rattle.walk.proofs.offset_refusal.Goals as goal
 pub returns-then-calm_offset : goal.returns-then-calm_offset
 returns-then-calm_offset c = sym (calm-offset (listed c.args.words.now) (c.calm_offset.ensures c.if-calm_offset.true))
 
-pub table_refusal-requires : goal.table_refusal-requires
-table_refusal-requires c =
-    let n = c.shared_fitting-n in
+pub invariant_of-glance : goal.invariant_of-glance
+invariant_of-glance c =
+    let n = c.shared_fitting-vouched in
     let rows = c.row_sums-rows in
     let columns = c.column_terms-columns in
     let power = c.scale_power-power in
-    let w = listed c.args.words.now in (
-      power.ensures.upper_bound,
-      rows-small w 0x10 rows.result rows.ensures.by_index,
-      columns-small w 0x10 columns.result columns.ensures.by_index,
-      offset-vouches w rows.result columns.result power.result n.result rows.ensures.by_index columns.ensures.by_index power.ensures.value n.ensures.upper_bound n.ensures.shared_fit,
-    )
+    let w = listed c.args.words.now in
+    record {
+      power_small = power.ensures.upper_bound;
+      rows_small = rows-small w 0x10 rows.result rows.ensures.by_index;
+      columns_small = columns-small w 0x10 columns.result columns.ensures.by_index;
+      vouches = offset-vouches w rows.result columns.result power.result n.result rows.ensures.by_index columns.ensures.by_index power.ensures.value n.ensures.upper_bound n.ensures.shared_fit;
+    }

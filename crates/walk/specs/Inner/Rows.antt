@@ -1,8 +1,8 @@
 -- A table row by row, as the code goes over it: what the pixels of a row share, what those of a column share, and the remainder of each pixel.
 -- Assumes nothing.
 use Rattle.std.specs.Prelude.{ℕ, ◌+◌, ◌*◌, ◌%◌, ◌<◌, ◌≤◌, ◌≡◌, true, List, get_or, ℤ, pos, nat_abs, ◌+ℤ◌, ◌*ℤ◌}
+use Rattle.refusal.specs.Code.{accepted}
 use Rattle.refusal.specs.declared.Table.{Table}
-use Rattle.refusal.specs.declared.Refusal.TheVariants.{None}
 use Rattle.util.specs.Words.{field, signed_field}
 use Rattle.util.specs.Inner.Widths.{clip}
 use Rattle.util.specs.Sums.{in16, term_of}
@@ -43,4 +43,4 @@ SharedFit w base n = (r c : ℕ) → r < n → c < 32 → (in16 (row_term w base
 abbrev pub Vouches : (ℕ → ℕ) → Table → List ℤ → List ℤ → ℕ → ℕ → ℕ → ℕ → Type 0
 Vouches w t rows columns low width power n =
     (r c : ℕ) → r < n → c < 32 → in16 (own_term w low width power r c) ≡ true → in16 (row_entry w rows columns low width power r c) ≡ true
-    → first_outside (pixel_steps w t (32 * r + c)) ≡ None
+    → first_outside (pixel_steps w t (32 * r + c)) ≡ accepted

@@ -7,6 +7,6 @@ use Rattle.walk.proofs.rows.row_refusal.Goals as goal
 
 pub returns-then-not-leaves : goal.returns-then-not-leaves
 returns-then-not-leaves c =
-    let s = c.args in
-    sym (pixels-none (pixel_steps (listed s.words.now) s.table) 32 (32 * s.r)
-    (λ k h. let seen = c.leaves.ensures c.if-not-leaves.true k h in c.requires.4 s.r k c.if-r-n.true h seen.0 seen.1))
+    let s = c.args.glance.now in
+    sym (pixels-none (pixel_steps (listed s.words.now) s.table) 32 (32 * c.args.r)
+    (λ k h. let seen = c.leaves.ensures c.if-not-leaves.true k h in s.vouches c.args.r k c.if-r-glance.true h seen.0 seen.1))
