@@ -1,15 +1,15 @@
 -- An explanation's bytes, `explanation_size` of them: what the decoder answers, which pixel is explained and what fails in it, then its fields and running sums in their order, and the
 -- entry. docs/INTERFACE.md has the table of their places.
 -- Assumes nothing.
-use Rattle.std.specs.Prelude.{ℕ, List, [], ◌∷◌, ◌++◌, ℤ, pos}
+use Rattle.std.specs.Prelude.{ℕ, List, [], ◌∷◌, ◌++◌, ℤ, pos, Option, None, Some}
 use Rattle.util.specs.Bytes.{two, four, i32_bits}
 use Rattle.refusal.specs.Code.{table_number, code_of}
 use Rattle.explanation.specs.declared.Part.{Part}
 use Rattle.explanation.specs.declared.Parts.{Parts}
 use Rattle.explanation.specs.declared.Failure.{Failure}
-use Rattle.explanation.specs.declared.Failure.TheVariants.{Nothing, Row, Column, Remainder, Sum}
+use Rattle.explanation.specs.declared.Failure.TheVariants.{Row, Column, Remainder, Sum}
 use Rattle.explanation.specs.declared.Entry.{Entry}
-use Rattle.explanation.specs.declared.Entry.TheVariants.{Absent, Whole, Fraction}
+use Rattle.explanation.specs.declared.Entry.TheVariants.{Whole, Fraction}
 use Rattle.explanation.specs.declared.Explanation.{Explanation}
 use Rattle.layout.specs.Numbers.{short_bytes, float_bytes}
 
@@ -31,18 +31,18 @@ parts_bytes x =
     ++ stage_bytes x.column x.after_column
     ++ stage_bytes x.remainder x.numerator
 
-abbrev pub failure_number : Failure → ℕ
-failure_number Nothing = 0
-failure_number Row = 1
-failure_number Column = 2
-failure_number Remainder = 3
-failure_number Sum = 4
+abbrev pub failure_number : Option Failure → ℕ
+failure_number None = 0
+failure_number (Some Row) = 1
+failure_number (Some Column) = 2
+failure_number (Some Remainder) = 3
+failure_number (Some Sum) = 4
 
 -- a whole number has 32 bits, as a fraction has
-abbrev pub entry_bytes : Entry → List ℕ
-entry_bytes Absent = whole_bytes (pos 0)
-entry_bytes (Whole z) = whole_bytes z
-entry_bytes (Fraction x) = float_bytes x
+abbrev pub entry_bytes : Option Entry → List ℕ
+entry_bytes None = whole_bytes (pos 0)
+entry_bytes (Some (Whole z)) = whole_bytes z
+entry_bytes (Some (Fraction x)) = float_bytes x
 
 -- what is explained: the decoder's answer, the table, the pixel, the failure
 unfoldable pub heading_bytes : Explanation → List ℕ

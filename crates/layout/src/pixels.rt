@@ -4,7 +4,7 @@ ghost use Rattle.std.proofs.lemmas.List.Edits.{sets};
 ghost use Rattle.layout.specs.Sizes.{pixel_size};
 ghost use Rattle.layout.specs.PixelBytes.{pixel_bytes};
 
-use crate::numbers::{put_f32, put_i16};
+use crate::numbers::Number;
 
 // The three numbers at the front of out.
 pub fn put_pixel(offset: i16, alpha: f32, k_ta: f32, out: &mut [u8])
@@ -12,7 +12,7 @@ pub fn put_pixel(offset: i16, alpha: f32, k_ta: f32, out: &mut [u8])
     ensures out_after { out.new ≡ sets out.old 0 (pixel_bytes offset alpha k_ta) }
     ensures k_ta_len { length (pixel_bytes offset alpha k_ta) ≡ pixel_size }
 {
-    put_i16(out, 0, offset);
-    put_f32(out, 2, alpha);
-    put_f32(out, 6, k_ta);
+    offset.put(out, 0);
+    alpha.put(out, 2);
+    k_ta.put(out, 6);
 }

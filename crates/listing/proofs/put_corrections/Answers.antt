@@ -3,4 +3,4 @@ use Rattle.listing.proofs.Typing.{then, done}
 use Rattle.listing.proofs.put_corrections.Goals as goal
 
 pub returns : goal.returns
-returns c = then _ _ _ c.put_floats-a.ensures (then _ _ _ c.put_floats-b.ensures (then _ _ _ c.put_optional-c.ensures (then _ _ _ c.put_floats-d.ensures (then _ _ _ c.put_floats.ensures (done _)))))
+returns c = then _ _ _ c.put_line-a.ensures (then _ _ _ c.put_line-b.ensures (then _ _ _ c.put_optional-c.ensures (then _ _ _ c.put_line-d.ensures (then _ _ _ c.put_line.ensures (done _)))))

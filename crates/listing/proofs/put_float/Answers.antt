@@ -1,13 +1,28 @@
 -- Eight digits, the highest first.
-use Rattle.std.proofs.Common.{ℕ, [], ◌∷◌, ◌%◌, div-one, sym, ap, ◌∙◌}
+use Rattle.std.proofs.Common.{◌≡◌, ℕ, List, [], ◌∷◌, ◌++◌, ◌+◌, ◌-◌, ◌*◌, ◌/◌, ◌%◌, ◌^◌, ◌<◌, take, refl, ap, arith, ◌∙◌}
+use Prim.Native.Nat.{zero, suc}
 use Rattle.listing.specs.Text.{digit, hexadecimal}
 use Rattle.listing.specs.Inner.Typing.{typed}
-use Rattle.listing.proofs.Typing.{then}
+use Rattle.listing.proofs.Typing.{then, done}
 use Rattle.listing.proofs.put_float.Goals as goal
 
-pub returns : goal.returns
-returns c =
+one-more : (n k : ℕ) → k < 8 → take k (hexadecimal n) ++ (digit (n / 2 ^ (28 - 4 * k) % 16) ∷ []) ≡ take (k + 1) (hexadecimal n)
+one-more n zero h = refl
+one-more n (suc zero) h = refl
+one-more n (suc (suc zero)) h = refl
+one-more n (suc (suc (suc zero))) h = refl
+one-more n (suc (suc (suc (suc zero)))) h = refl
+one-more n (suc (suc (suc (suc (suc zero))))) h = refl
+one-more n (suc (suc (suc (suc (suc (suc zero)))))) h = refl
+one-more n (suc (suc (suc (suc (suc (suc (suc zero))))))) h = refl
+one-more n (suc (suc (suc (suc (suc (suc (suc (suc k)))))))) h = absurd (omega arith)
+
+pub loop-k-init : goal.loop-k-init
+loop-k-init c = done _
+
+pub loop-k-preserved : goal.loop-k-preserved
+loop-k-preserved c =
     let n = c.bits-n.result in
-    let last = c.put_digit.ensures ∙ ap (λ (m : ℕ). typed (digit (m % 16) ∷ []) (c.put_digit-g.new.out, c.put_digit-g.result)) (sym (div-one n)) in
-    then _ _ _ (then _ _ _ (then _ _ _ (then _ _ _ (then _ _ _ (then _ _ _ (then _ _ _ c.put_digit-a.ensures c.put_digit-b.ensures) c.put_digit-c.ensures) c.put_digit-d.ensures) c.put_digit-e.ensures) c.put_digit-f.ensures) c.put_digit-g.ensures) last
-    ∙ ap (λ (n : ℕ). typed (hexadecimal n) (c.args.out.now, c.args.at)) c.bits-n.ensures
+    let k = c.loop-k.k in
+    then _ _ _ c.loop-k.invariant c.put_digit-next.ensures
+    ∙ ap (λ (t : List ℕ). typed t (c.args.out.now, c.args.at)) (one-more n k c.loop-k-test.true)

@@ -14,5 +14,6 @@ pub returns-then-z-lt0 : goal.returns-then-z-lt0
 returns-then-z-lt0 c =
     let z = c.args.z in
     let back = to_z-of_z {w = w32} c.ranges.z in
-    let e : ascii "-" ++ decimal_text c.magnitude.result ≡ whole_text z = ap (λ (n : ℕ). ascii "-" ++ decimal_text n) (rw back at c.magnitude.ensures) ∙ below-zero z (rw back at c.if-z-lt0.true) in
+    let e : ascii "-" ++ decimal_text c.unsigned_abs.result ≡ whole_text z =
+    ap (λ (n : ℕ). ascii "-" ++ decimal_text n) (rw back at c.unsigned_abs.ensures.value) ∙ below-zero z (rw back at c.if-z-lt0.true) in
     then _ _ _ c.put_byte-next.ensures c.put_decimal.ensures ∙ ap (λ (t : List ℕ). typed t (c.args.out.now, c.args.at)) e

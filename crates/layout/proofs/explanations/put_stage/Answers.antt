@@ -12,5 +12,5 @@ returns c =
     let a = c.args in
     let sum : to_z w32 (of_z w32 a.sum) ≡ a.sum = search rules in
     let w1 = first a.out.now a.at (part_bytes a.x) c.put_part.ensures.out_after c.put_part.ensures.x_len in
-    let w2 = next w1 (whole_bytes a.sum) (rw sum at c.put_i32.ensures) (whole_long a.sum) refl in
+    let w2 = next w1 (whole_bytes a.sum) (rw sum at c.put.ensures) (whole_long a.sum) refl in
     record { out_after = w2.is; sum_len = w2.long }

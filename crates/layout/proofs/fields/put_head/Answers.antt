@@ -14,8 +14,8 @@ returns c =
     let scalars = r.k_v_ptat ∷ r.k_t_ptat ∷ r.v_ptat_25 ∷ r.alpha_ptat ∷ r.gain ∷ r.k_s_ta ∷ [] in
     let k : to_z w16 (of_z w16 r.k_v_dd) ≡ r.k_v_dd = search rules in
     let v : to_z w16 (of_z w16 r.v_dd_25) ≡ r.v_dd_25 = search rules in
-    let w1 = first c.args.out.now 0 (short_bytes r.k_v_dd) (rw k at c.put_i16.ensures) (short-long r.k_v_dd) in
-    let w2 = next w1 (short_bytes r.v_dd_25) (rw v at c.put_i16-2.ensures) (short-long r.v_dd_25) refl in
-    let w3 = next w2 (r.resolution ∷ []) refl refl refl in
-    let w4 = next w3 (floats_bytes scalars) c.put_f32s.ensures (floats-long scalars 6 refl) refl in
+    let w1 = first c.args.out.now 0 (short_bytes r.k_v_dd) (rw k at c.put.ensures) (short-long r.k_v_dd) in
+    let w2 = next w1 (short_bytes r.v_dd_25) (rw v at c.put-2.ensures) (short-long r.v_dd_25) refl in
+    let w3 = next w2 (r.resolution ∷ []) c.put-3.ensures refl refl in
+    let w4 = next w3 (floats_bytes scalars) c.put_all.ensures (floats-long scalars 6 refl) refl in
     record { out_after = w4.is; r_len = w4.long }

@@ -9,16 +9,16 @@ use Rattle.layout.proofs.Back.{absent-back, given_back}
 use Rattle.layout.proofs.Stored.{first, next, float-long}
 use Rattle.layout.proofs.fields.put_optional.Goals as goal
 
-pub returns-in-Absent : goal.returns-in-Absent
+pub returns-in-None : goal.returns-in-None
 unfolding optional_bytes of_bits
-returns-in-Absent c =
-    let w = next (first c.args.out.now c.args.at (0 ∷ []) refl refl) (float_bytes plus_zero) c.put_f32.ensures (float-long plus_zero) refl in
-    rw c.in-Absent.is (record { out_after = w.is; x_value = absent-back })
+returns-in-None c =
+    let w = next (first c.args.out.now c.args.at (0 ∷ []) refl refl) (float_bytes plus_zero) c.put.ensures (float-long plus_zero) refl in
+    rw c.in-None.is (record { out_after = w.is; x_value = absent-back })
 
-pub returns-in-Given : goal.returns-in-Given
+pub returns-in-Some : goal.returns-in-Some
 unfolding optional_bytes
-returns-in-Given c =
-    let x = c.in-Given.value in
-    let w = next (first c.args.out.now c.args.at (1 ∷ []) refl refl) (float_bytes x) c.put_f32-in-Given.ensures (float-long x) refl in
+returns-in-Some c =
+    let x = c.in-Some.value in
+    let w = next (first c.args.out.now c.args.at (1 ∷ []) refl refl) (float_bytes x) c.put-in-Some.ensures (float-long x) refl in
     let fit : Fits32 x = search rules in
-    rw c.in-Given.is (record { out_after = w.is; x_value = given_back x fit })
+    rw c.in-Some.is (record { out_after = w.is; x_value = given_back x fit })

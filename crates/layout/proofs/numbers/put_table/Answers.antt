@@ -8,11 +8,11 @@ use Rattle.layout.proofs.numbers.put_table.Goals as goal
 
 pub loop-i-init : goal.loop-i-init
 unfolding flat
-loop-i-init c = (omega arith, refl, refl)
+loop-i-init c = refl
 
 pub loop-i-preserved : goal.loop-i-preserved
 unfolding four
 loop-i-preserved c =
     let i = c.loop-i.i in
     let more = turn float_bytes 4 (λ x. refl) c.args.out.now 0 i (4 * i) c.args.a.now nan c.loop-i-test.true (omega arith) in
-    (omega arith, c.put_u32.ensures ∙ rw c.loop-i.invariant.1 more, omega arith)
+    c.put_u32.ensures ∙ rw c.loop-i.invariant more

@@ -1,22 +1,7 @@
--- Each turn takes the next mark.
-use Rattle.std.proofs.Common.{◌≡◌, ℕ, List, refl, ap, arith, ◌∙◌}
-use Rattle.std.specs.Prelude.{set, replicate}
-use Rattle.util.specs.Words.{listed}
-use Rattle.util.proofs.Filled.{tab-none, tab-more, tab-whole}
-use Rattle.layout.specs.GatheringBytes.{mark_at}
+-- Each mark is the one at its word's place.
+use Rattle.std.proofs.Common.{rules}
+use Rattle.util.proofs.Told.{from_fn-told}
 use Rattle.layout.proofs.states.get_marks_at.Goals as goal
 
-pub loop-k-init : goal.loop-k-init
-loop-k-init c = (omega arith, tab-none _ _)
-
-pub loop-k-preserved : goal.loop-k-preserved
-loop-k-preserved c =
-    let a = c.args in
-    let k = c.loop-k.k in
-    let f : ℕ → ℕ = λ j. mark_at a.s.now (listed a.words.now j) in
-    (omega arith, ap (λ (l : List ℕ). set l k (f k)) c.loop-k.invariant.1 ∙ tab-more f k (replicate 11 0) (omega arith))
-
 pub returns : goal.returns
-returns c =
-    let e : c.loop-k.k ≡ 11 = omega arith in
-    rw e at c.loop-k.invariant.1 ∙ tab-whole _ 11 (replicate 11 0) refl
+returns c = from_fn-told _ _ _ c.from_fn.result 11 (λ j y q l called. (search rules, search rules)) c.from_fn.ensures.items

@@ -1,8 +1,7 @@
 -- The high byte counts 256 times.
-use Rattle.std.proofs.Common.{refl}
 use Rattle.layout.specs.Numbers.{two_at}
-use Rattle.layout.proofs.numbers.get_u16.Goals as goal
+use Rattle.layout.proofs.numbers.U16Readable.get.Goals as goal
 
 pub returns : goal.returns
 unfolding two_at
-returns c = refl
+returns c = c.from_be_bytes.ensures
