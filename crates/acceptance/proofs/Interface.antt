@@ -12,9 +12,9 @@ use lib.ListN.{length, take}
 use lib.Seq.{length-take-le}
 use contract.Lifetimes.{Lfts}
 use borrow.Fn.Kinds.{Dens}
-use Rattle.refusal.specs.Code.{or_else}
-use Rattle.refusal.specs.declared.Refusal.{Refusal}
-use Rattle.refusal.specs.declared.Refusal.TheVariants.{None, ShortSlice}
+use Rattle.std.specs.Prelude.{Err}
+use Rattle.refusal.specs.Code.{or_else, Verdict, accepted}
+use Rattle.refusal.specs.declared.Refusal.TheVariants.{ShortSlice}
 use Rattle.util.specs.Bytes.{bytes_of}
 use Rattle.record.specs.Fields.{record_of}
 use Rattle.page.specs.Page.{image_in}
@@ -48,9 +48,9 @@ pub record Slices : Type 0 where
   pub rec : List ℕ
 
 abbrev pub Refuses : Type 0
-Refuses = List ℕ → List ℕ → List ℕ → List ℕ → Refusal
+Refuses = List ℕ → List ℕ → List ℕ → List ℕ → Verdict
 
-abbrev pub refusal_for : Refuses → Slices → Refusal
+abbrev pub refusal_for : Refuses → Slices → Verdict
 refusal_for f s = f s.offset s.alpha s.kta s.rec
 
 -- the answer word of a refusal, and what is laid into the slices over the words w
@@ -73,10 +73,10 @@ alike {f} {g} {s = s} {t} refuse words slices p q =
     (r, λ i. record { offset = o i; alpha = l i; kta = k i; rec = c i })
 
 -- a full gathering's bytes, as the image that its values are
-as-image : (s : List ℕ) → gathering_size ≤ length s → fault_of (gathering_in s) ≡ None → (o l k c : List ℕ) → gathered_refusal s o l k c ≡ slices_refusal (bytes_of (gathering_in s).values) o l k c
+as-image : (s : List ℕ) → gathering_size ≤ length s → fault_of (gathering_in s) ≡ accepted → (o l k c : List ℕ) → gathered_refusal s o l k c ≡ slices_refusal (bytes_of (gathering_in s).values) o l k c
 as-image s h full o l k c =
-    ap (λ (t : Bool). let g = cond t fresh_state (gathering_in s) in or_else (or_else (cond t ShortSlice None) (fault_of g)) (slices_refusal (bytes_of g.values) o l k c)) (le-ltb (length s) gathering_size h)
-    ∙ ap (λ (r : Refusal). or_else r (slices_refusal (bytes_of (gathering_in s).values) o l k c)) full
+    ap (λ (t : Bool). let g = cond t fresh_state (gathering_in s) in or_else (or_else (cond t (Err ShortSlice) accepted) (fault_of g)) (slices_refusal (bytes_of g.values) o l k c)) (le-ltb (length s) gathering_size h)
+    ∙ ap (λ (r : Verdict). or_else r (slices_refusal (bytes_of (gathering_in s).values) o l k c)) full
 
 words_of : (s : List ℕ) → gathering_size ≤ length s → stored_words s ≡ image_words (bytes_of (gathering_in s).values)
 words_of s h = ap (λ (t : Bool). gathered_words (cond t fresh_state (gathering_in s))) (le-ltb (length s) gathering_size h)

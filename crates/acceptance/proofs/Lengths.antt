@@ -13,23 +13,22 @@ use lib.ListN.{length, take, get_or, length-append}
 use lib.Seq.{take_all, length-take-le}
 use contract.Lifetimes.{Lfts}
 use borrow.Fn.Kinds.{Dens}
-use Rattle.refusal.specs.Code.{plain_code, code_of}
+use Rattle.std.specs.Prelude.{Result, Ok, Err}
+use Rattle.refusal.specs.Code.{plain_code, code_of, Verdict, verdict_of}
 use Rattle.refusal.specs.declared.Code.{Code}
 use Rattle.refusal.specs.declared.Refusal.{Refusal}
-use Rattle.refusal.specs.declared.Refusal.TheVariants.{None, ImageLength, ShortSlice, TermOutside, SumOutside}
+use Rattle.refusal.specs.declared.Refusal.TheVariants.{ImageLength, ShortSlice, TermOutside, SumOutside}
 use Rattle.refusal.specs.declared.Refusal.TheVariants.{BlockLength, BlockCount, BlockVersion, BlockRange, WordInConflict, WordMissing}
 use Rattle.refusal.specs.declared.Refusal.TheVariants.{PastTheEnd, RangeNumber, Resolution, PatternOrSubpage, TableNumber}
 use Rattle.refusal.proofs.Apart.{codes-apart}
+use Rattle.refusal.proofs.Order.{granted-verdict}
 use Rattle.page.specs.Page.{image_in}
 use Rattle.page.proofs.Rule.{whole-image}
-use Rattle.record.specs.Fields.{blank_record}
 use Rattle.record.specs.declared.Record.{Record}
 use Rattle.eeprom.specs.Decoding.{refusal_of, decoded_of}
-use Rattle.eeprom.specs.declared.Decoded.{Decoded}
 use Rattle.eeprom.proofs.Refusals.{length-refused, refusal-1}
 use Rattle.eeprom.specs.Image.{image_words}
 use Rattle.pixel.specs.Answer.{pixel_refusal}
-use Rattle.pixel.specs.declared.PixelAnswer.{PixelAnswer}
 use Rattle.pixel.proofs.Exactly.{answered-refusal, pixel-1}
 use Rattle.mofuleka.proofs.Single.{slice-1}
 use Rattle.listing.specs.Text.{ascii, decimal_up_to}
@@ -65,64 +64,69 @@ joined-neither i j e m n = let long = joined-long i j e m n in (λ k. omega arit
 
 -- ---- the decoder
 module _ (κs : Lfts 4) (a : Dens κs FromDataK.ps) (x : Ending FromDataK.ps FromDataK.r κs a) (p : Allows FromDataK.ps FromDataK.r FromData.Learnt κs a x) where
-  pub from-data-length : (x.result.refusal ≡ ImageLength) ↔ (length a.0.now ≡ 1664 → ⊥)
+  pub from-data-length : (verdict_of x.result ≡ Err ImageLength) ↔ (length a.0.now ≡ 1664 → ⊥)
   unfolding decoded_of
   from-data-length =
-      let is = ap (λ (d : Decoded). d.refusal) p.0 in
+      let is = ap verdict_of p.0 ∙ granted-verdict (refusal_of a.0.now (length a.1.0.now) (length a.1.1.0.now) (length a.1.1.1.0.now)) _ in
       let one = refusal-1 a.0.now (length a.1.0.now) (length a.1.1.0.now) (length a.1.1.1.0.now) in
       (λ e. one.0 (sym is ∙ e), λ n. is ∙ one.1 n)
 
-  pub joined-from-data : (i j : List ℕ) → a.0.now ≡ i ++ j → length i ≡ 1664 → length j ≡ 1664 → x.result.refusal ≡ ImageLength
+  pub joined-from-data : (i j : List ℕ) → a.0.now ≡ i ++ j → length i ≡ 1664 → length j ≡ 1664 → verdict_of x.result ≡ Err ImageLength
   joined-from-data i j e m n = from-data-length.1 (joined-neither i j e m n).0
 
 -- ---- one pixel
 module _ (κs : Lfts 1) (a : Dens κs PixelK.ps) (x : Ending PixelK.ps PixelK.r κs a) (p : Allows PixelK.ps PixelK.r Pixel.Learnt κs a x) where
-  pub pixel-length : (x.result.refusal ≡ ImageLength) ↔ (length a.0.now ≡ 1664 → ⊥)
+  pub pixel-length : (verdict_of x.result ≡ Err ImageLength) ↔ (length a.0.now ≡ 1664 → ⊥)
   pixel-length =
       let image = a.0.now in
-      let is = ap (λ (d : PixelAnswer). d.refusal) p ∙ answered-refusal (pixel_refusal image a.1.0) (image_words image) a.1.0 in
+      let is = ap verdict_of p ∙ answered-refusal (pixel_refusal image a.1.0) (image_words image) a.1.0 in
       let one = pixel-1 image a.1.0 in
       (λ e. one.0 (sym is ∙ e), λ n. is ∙ one.1 n)
 
-  pub joined-pixel : (i j : List ℕ) → a.0.now ≡ i ++ j → length i ≡ 1664 → length j ≡ 1664 → x.result.refusal ≡ ImageLength
+  pub joined-pixel : (i j : List ℕ) → a.0.now ≡ i ++ j → length i ≡ 1664 → length j ≡ 1664 → verdict_of x.result ≡ Err ImageLength
   joined-pixel i j e m n = pixel-length.1 (joined-neither i j e m n).0
 
 -- ---- the listing: a text that says so
 abbrev pub refused_1 : List ℕ
 refused_1 = ascii "refused 1 0 0\n"
 
-says-1 : (d : Decoded) → listing d ≡ refused_1 → d.refusal ≡ ImageLength
+says-1 : (d : Result Record Refusal) → listing d ≡ refused_1 → d ≡ Err ImageLength
 unfolding listing spaced decimal_up_to
-says-1 d e = go d.refusal d.«record» e
+says-1 d e = go d e
   where
     byte : (k : ℕ) {l : List ℕ} → l ≡ refused_1 → get_or l k 0 ≡ get_or refused_1 k 0
     byte k e = ap (λ (l : List ℕ). get_or l k 0) e
 
-    go : (r : Refusal) (c : Record) → listing (record { refusal = r; «record» = c }) ≡ refused_1 → r ≡ ImageLength
-    go ImageLength c e = refl
-    go None c e = absurd (omega (arith, byte 0 e))
-    go ShortSlice c e = absurd (omega (arith, byte 8 e))
-    go (TermOutside t q) c e = absurd (omega (arith, byte 8 e))
-    go (SumOutside t q) c e = absurd (omega (arith, byte 8 e))
-    go BlockLength c e = absurd (omega (arith, byte 8 e))
-    go BlockCount c e = absurd (omega (arith, byte 8 e))
-    go BlockVersion c e = absurd (omega (arith, byte 8 e))
-    go BlockRange c e = absurd (omega (arith, byte 8 e))
-    go (WordInConflict w) c e = absurd (omega (arith, byte 8 e))
-    go (WordMissing w) c e = absurd (omega (arith, byte 9 e))
-    go PastTheEnd c e = absurd (omega (arith, byte 9 e))
-    go RangeNumber c e = absurd (omega (arith, byte 9 e))
-    go Resolution c e = absurd (omega (arith, byte 9 e))
-    go PatternOrSubpage c e = absurd (omega (arith, byte 9 e))
-    go TableNumber c e = absurd (omega (arith, byte 9 e))
+    go : (d : Result Record Refusal) → listing d ≡ refused_1 → d ≡ Err ImageLength
+    go (Err ImageLength) e = refl
+    go (Ok r) e = absurd (omega (arith, byte 0 e))
+    go (Err ShortSlice) e = absurd (omega (arith, byte 8 e))
+    go (Err (TermOutside t q)) e = absurd (omega (arith, byte 8 e))
+    go (Err (SumOutside t q)) e = absurd (omega (arith, byte 8 e))
+    go (Err BlockLength) e = absurd (omega (arith, byte 8 e))
+    go (Err BlockCount) e = absurd (omega (arith, byte 8 e))
+    go (Err BlockVersion) e = absurd (omega (arith, byte 8 e))
+    go (Err BlockRange) e = absurd (omega (arith, byte 8 e))
+    go (Err (WordInConflict w)) e = absurd (omega (arith, byte 8 e))
+    go (Err (WordMissing w)) e = absurd (omega (arith, byte 9 e))
+    go (Err PastTheEnd) e = absurd (omega (arith, byte 9 e))
+    go (Err RangeNumber) e = absurd (omega (arith, byte 9 e))
+    go (Err Resolution) e = absurd (omega (arith, byte 9 e))
+    go (Err PatternOrSubpage) e = absurd (omega (arith, byte 9 e))
+    go (Err TableNumber) e = absurd (omega (arith, byte 9 e))
 
-other_length : (image : List ℕ) (l m n : ℕ) → (length image ≡ 1664 → ⊥) → decoded_of image l m n ≡ record { refusal = ImageLength; «record» = blank_record }
+other_length : (image : List ℕ) (l m n : ℕ) → (length image ≡ 1664 → ⊥) → decoded_of image l m n ≡ Err ImageLength
 unfolding decoded_of refusal_of
 other_length image l m n h = rw (ne_eqb (length image) 1664 h)
 
+-- and what is answered so was refused so
+decoded-1 : (image : List ℕ) (l m n : ℕ) → decoded_of image l m n ≡ Err ImageLength → refusal_of image l m n ≡ Err ImageLength
+unfolding decoded_of
+decoded-1 image l m n e = sym (granted-verdict (refusal_of image l m n) _) ∙ ap verdict_of e
+
 listed-length : (image : List ℕ) → (listing (decoded_of image 768 768 768) ≡ refused_1) ↔ (length image ≡ 1664 → ⊥)
 unfolding decoded_of listing spaced decimal_up_to
-listed-length image = (λ e. (refusal-1 image 768 768 768).0 (says-1 (decoded_of image 768 768 768) e), λ n. ap listing (other_length image 768 768 768 n))
+listed-length image = (λ e. (refusal-1 image 768 768 768).0 (decoded-1 image 768 768 768 (says-1 (decoded_of image 768 768 768) e)), λ n. ap listing (other_length image 768 768 768 n))
 
 module _ (κs : Lfts 2) (a : Dens κs ListImageK.ps) (x : Ending ListImageK.ps ListImageK.r κs a) (p : Allows ListImageK.ps ListImageK.r ListImage.Learnt κs a x) where
   pub list-image-length : (take x.result x.lent.1.0 ≡ refused_1) ↔ (length a.0.now ≡ 1664 → ⊥)
@@ -150,8 +154,8 @@ enough-read input l m n = go (dec_le (length input) 2049)
         ∙ sym (other_length (image_in input) l m n ((no-image input).1 (λ e. omega arith, λ e. omega arith)))
 
 -- ---- the C interface
-word-1 : (r : Refusal) → (refusal_word r ≡ 1) ↔ (r ≡ ImageLength)
-word-1 r = (λ e. codes-apart r ImageLength (one (code_of r) e), λ e. ap refusal_word e)
+word-1 : (r : Verdict) → (refusal_word r ≡ 1) ↔ (r ≡ Err ImageLength)
+word-1 r = (λ e. codes-apart r (Err ImageLength) (one (code_of r) e), λ e. ap refusal_word e)
   where
     one : (c : Code) → c.number + 256 * c.table + 65536 * c.place ≡ 1 → c ≡ plain_code 1
     one c e =

@@ -9,10 +9,13 @@ use lib.Dec.{leb, ltb}
 use lib.IntN.{ℤ}
 use lib.Ieee.{neg, to_bits}
 use lib.ListN.{length}
+use Rattle.std.specs.Prelude.{Result}
 use Rattle.exact.specs.Dyadic.{dyadic}
+use Rattle.refusal.specs.declared.Refusal.{Refusal}
 use Rattle.util.specs.Words.{word_at}
 use Rattle.util.specs.Sums.{in16}
 use Rattle.util.specs.Bytes.{bytes_of}
+use Rattle.record.specs.declared.Record.{Record}
 use Rattle.record.specs.Fields.{record_of, blank_record, k_v_dd_field, v_dd_25_field, corners, gradient_of, interleave_a, interleave_b, interleave_c, interleave_six, interleave_cp}
 use Rattle.walk.specs.Parts.{row_sum, column_sum, whole_sum, kta_sum}
 use Rattle.steps.specs.Steps.{steps_from, first_outside}
@@ -21,7 +24,6 @@ use Rattle.util.specs.Lists.{tab}
 use Rattle.util.proofs.Filled.{tab-at, tab-length}
 use Rattle.eeprom.specs.Image.{image_words}
 use Rattle.eeprom.specs.Decoding.{refusal_of, answered, decoded_of}
-use Rattle.eeprom.specs.declared.Decoded.{Decoded}
 use Rattle.util.proofs.Bytes.{word-of-bytes, length-bytes}
 use Rattle.acceptance.specs.Readings.{Set, Question, zeros, image, block, words_set, image_of, decoded, asked, told, answer, readings}
 
@@ -45,7 +47,7 @@ unfolding image_of
 image-length s = length-bytes (tab (words_set s) 832) ∙ ap (λ (n : ℕ). 2 * n) (tab-length (words_set s) 832)
 
 -- so the decoder's answer is the walk's over them
-abbrev walked : (ℕ → ℕ) → Decoded
+abbrev walked : (ℕ → ℕ) → Result Record Refusal
 walked w = answered (first_outside (walk w)) w
 
 pub decoded-set : (s : List Set) → decoded (image_of s) ≡ walked (counted s)
@@ -60,7 +62,7 @@ by-words (block b) = answer (block b)
 same : (q : Question) → answer q ≡ by-words q
 unfolding answer by-words
 same (zeros n) = refl
-same (image s a) = ap₂ (λ (d : Decoded) (w : ℕ → ℕ). told d w a) (decoded-set s) (set_words s)
+same (image s a) = ap₂ (λ (d : Result Record Refusal) (w : ℕ → ℕ). told d w a) (decoded-set s) (set_words s)
 same (block b) = refl
 
 map_same : {A B : Type 0} (f g : A → B) → ((x : A) → f x ≡ g x) → (l : List A) → map f l ≡ map g l

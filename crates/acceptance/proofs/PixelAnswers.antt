@@ -1,17 +1,15 @@
 -- The public functions of `pixel` have no second answer, and its entry points ask for nothing: each contract is an equation for what is answered.
 -- Assumes nothing.
-use mathlib.Core.Path.{sym, ◌∙◌}
+use mathlib.Core.Path.{◌≡◌, refl, sym, ◌∙◌}
 use mathlib.Core.List.{[]}
-use lib.IntN.{pos}
 use lib.ListN.{replicate}
-use Rattle.exact.specs.Dyadic.{plus_zero}
-use Rattle.refusal.specs.declared.Refusal.TheVariants.{None, ImageLength, PastTheEnd}
-use Rattle.pixel.specs.Answer.{answer_with, refused_with, answered}
+use Rattle.std.specs.Prelude.{ℤ, Float, Err}
+use Rattle.refusal.specs.Code.{accepted}
+use Rattle.refusal.specs.declared.Refusal.TheVariants.{ImageLength, PastTheEnd}
+use Rattle.pixel.specs.Answer.{answer_with, answered}
 use Rattle.acceptance.specs.Determined.{OneAnswer, EntryPoint, Only, slice}
 use Rattle.pixel.proofs.needed.Kinds as NeededK
 use Rattle.pixel.proofs.needed.Reads as Needed
-use Rattle.pixel.proofs.refused.Kinds as RefusedK
-use Rattle.pixel.proofs.refused.Reads as Refused
 use Rattle.pixel.proofs.pixel_from.Kinds as PixelFromK
 use Rattle.pixel.proofs.pixel_from.Reads as PixelFrom
 use Rattle.pixel.proofs.past_the_end.Kinds as PastK
@@ -26,27 +24,21 @@ use Rattle.pixel.proofs.pixel.Reads as Pixel
 pub one-needed : OneAnswer NeededK.ps NeededK.r Needed.Learnt
 one-needed _ _ _ _ p q = λ i. record { result = (p.0 ∙ sym q.0) i; lent = (tt, tt) }
 
-pub one-refused : EntryPoint RefusedK.ps RefusedK.r Refused.Asked Refused.Learnt
-one-refused = (λ _ _. tt, λ _ _ _ _ p q i. record { result = (p ∙ sym q) i; lent = (tt, tt) })
-
-pub asked-refused : Only RefusedK.ps RefusedK.r Refused.Learnt (λ _. (PastTheEnd, tt)) (λ _. answer_with PastTheEnd (pos 0) plus_zero plus_zero)
-asked-refused = λ _ _ p. p
-
 pub one-pixel-from : OneAnswer PixelFromK.ps PixelFromK.r PixelFrom.Learnt
 one-pixel-from _ _ _ _ p q = λ i. record { result = (p ∙ sym q) i; lent = (tt, (tt, tt)) }
 
 pub one-past-the-end : EntryPoint PastK.ps PastK.r Past.Asked Past.Learnt
 one-past-the-end = (λ _ _. tt, λ _ _ _ _ p q i. record { result = (p ∙ sym q) i; lent = (tt, tt) })
 
-pub asked-past-the-end : Only PastK.ps PastK.r Past.Learnt (λ _. (767, tt)) (λ _. None)
-    × Only PastK.ps PastK.r Past.Learnt (λ _. (768, tt)) (λ _. PastTheEnd)
+pub asked-past-the-end : Only PastK.ps PastK.r Past.Learnt (λ _. (767, tt)) (λ _. accepted)
+    × Only PastK.ps PastK.r Past.Learnt (λ _. (768, tt)) (λ _. Err PastTheEnd)
 asked-past-the-end = (λ _ _ p. p, λ _ _ p. p)
 
 pub one-asked : EntryPoint AskedK.ps AskedK.r Asked.Asked Asked.Learnt
 one-asked = (λ _ _. tt, λ _ _ _ _ p q i. record { result = (p ∙ sym q) i; lent = (tt, (tt, tt)) })
 
-pub asked-asked : Only AskedK.ps AskedK.r Asked.Learnt (λ _. (1665, (768, tt))) (λ _. ImageLength)
-    × Only AskedK.ps AskedK.r Asked.Learnt (λ _. (1664, (768, tt))) (λ _. PastTheEnd)
+pub asked-asked : Only AskedK.ps AskedK.r Asked.Learnt (λ _. (1665, (768, tt))) (λ _. Err ImageLength)
+    × Only AskedK.ps AskedK.r Asked.Learnt (λ _. (1664, (768, tt))) (λ _. Err PastTheEnd)
 asked-asked = (λ _ _ p. p, λ _ _ p. p)
 
 pub one-words-at : EntryPoint WordsAtK.ps WordsAtK.r WordsAt.Asked WordsAt.Learnt
@@ -55,8 +47,12 @@ one-words-at = (λ _ _. tt, λ _ _ _ _ p q i. record { result = (p ∙ sym q) i;
 pub one-pixel : EntryPoint PixelK.ps PixelK.r Pixel.Asked Pixel.Learnt
 one-pixel = (λ _ _. tt, λ _ _ _ _ p q i. record { result = (p ∙ sym q) i; lent = (tt, (tt, tt)) })
 
--- 1 comes before 11, and beside both the numbers are +0
-pub asked-pixel : Only PixelK.ps PixelK.r Pixel.Learnt (λ _. (slice [], (768, tt))) (λ _. refused_with ImageLength)
-    × Only PixelK.ps PixelK.r Pixel.Learnt (λ _. (slice (replicate 1664 0), (768, tt))) (λ _. refused_with PastTheEnd)
+-- 1 comes before 11
+pub asked-pixel : Only PixelK.ps PixelK.r Pixel.Learnt (λ _. (slice [], (768, tt))) (λ _. Err ImageLength)
+    × Only PixelK.ps PixelK.r Pixel.Learnt (λ _. (slice (replicate 1664 0), (768, tt))) (λ _. Err PastTheEnd)
 unfolding answered
 asked-pixel = (λ _ _ p. p, λ _ _ p. p)
+
+-- and beside a refusal there is no number, whatever the three would have been
+pub asked-refused : (offset : ℤ) (alpha kta : Float) → answer_with (Err PastTheEnd) offset alpha kta ≡ Err PastTheEnd
+asked-refused offset alpha kta = refl

@@ -8,7 +8,7 @@ use native.Mathlib.Omega.{arith}
 use lib.ListN.{length, get_or, drop, take-append-drop}
 use contract.Lifetimes.{Lfts}
 use borrow.Fn.Kinds.{Dens}
-use Rattle.refusal.specs.declared.Refusal.TheVariants.{None}
+use Rattle.refusal.specs.Code.{accepted, verdict_of}
 use Rattle.util.specs.Bytes.{bytes_of}
 use Rattle.tables.specs.Entries.{offset_at, alpha_at, kta_at}
 use Rattle.eeprom.specs.Decoding.{decoded_of, table_after}
@@ -35,9 +35,9 @@ module _ (κs : Lfts 4) (a b : Dens κs FromDataK.ps) (x : Ending FromDataK.ps F
       let sizes : (image : List ℕ) → decoded_of image (length a.1.0.now) (length a.1.1.0.now) (length a.1.1.1.0.now) ≡ decoded_of image (length b.1.0.now) (length b.1.1.0.now) (length b.1.1.1.0.now) =
       λ image i. decoded_of image (length (e i).0.now) (length (e i).1.0.now) (length (e i).1.1.0.now) in
       let r = p.0 ∙ (same-answers a.0.now b.0.now s (length a.1.0.now) (length a.1.1.0.now) (length a.1.1.1.0.now) ∙ (sizes b.0.now ∙ sym q.0)) in
-      let o = p.1.0 ∙ ((λ j. table_after (r j).refusal (offset_at (w j)) (e j).0.now) ∙ sym q.1.0) in
-      let l = p.1.1.0 ∙ ((λ j. table_after (r j).refusal (alpha_at (w j)) (e j).1.0.now) ∙ sym q.1.1.0) in
-      let k = p.1.1.1 ∙ ((λ j. table_after (r j).refusal (kta_at (w j)) (e j).1.1.0.now) ∙ sym q.1.1.1) in
+      let o = p.1.0 ∙ ((λ j. table_after (verdict_of (r j)) (offset_at (w j)) (e j).0.now) ∙ sym q.1.0) in
+      let l = p.1.1.0 ∙ ((λ j. table_after (verdict_of (r j)) (alpha_at (w j)) (e j).1.0.now) ∙ sym q.1.1.0) in
+      let k = p.1.1.1 ∙ ((λ j. table_after (verdict_of (r j)) (kta_at (w j)) (e j).1.1.0.now) ∙ sym q.1.1.1) in
       (r, λ i. (tt, (o i, (l i, (k i, tt)))))
 
 module _ (κs : Lfts 2) (a b : Dens κs ListImageK.ps) (x : Ending ListImageK.ps ListImageK.r κs a) (y : Ending ListImageK.ps ListImageK.r κs b) where
@@ -52,8 +52,8 @@ module _ (κs : Lfts 2) (a b : Dens κs ListImageK.ps) (x : Ending ListImageK.ps
 
 -- ---- gatherings: full ones that agree in words 16..831
 pub record SameHeld (g k : Gathering) : Type 0 where
-  pub full_g : fault_of g ≡ None
-  pub full_k : fault_of k ≡ None
+  pub full_g : fault_of g ≡ accepted
+  pub full_k : fault_of k ≡ accepted
   pub size_g : length g.values ≡ 832
   pub size_k : length k.values ≡ 832
   pub same : (n : ℕ) → 16 ≤ n → n < 832 → get_or g.values n 0 ≡ get_or k.values n 0
@@ -68,15 +68,15 @@ held-words g k s = record {
 gathered-answers : (g k : Gathering) → SameHeld g k → (l m n : ℕ) → calibration_of g l m n ≡ calibration_of k l m n
 gathered-answers g k s l m n = rw (s.full_g, s.full_k) (same-answers (bytes_of g.values) (bytes_of k.values) (held-words g k s) l m n)
 
-module _ (κs : Lfts 3) (a b : Dens κs CalibrationK.ps) (x : Ending CalibrationK.ps CalibrationK.r κs a) (y : Ending CalibrationK.ps CalibrationK.r κs b) where
-  pub calibration-same : SameHeld a.0 b.0 → a.1 ≡ b.1
+module _ (κs : Lfts 4) (a b : Dens κs CalibrationK.ps) (x : Ending CalibrationK.ps CalibrationK.r κs a) (y : Ending CalibrationK.ps CalibrationK.r κs b) where
+  pub calibration-same : SameHeld a.0.now b.0.now → a.1 ≡ b.1
       → Allows CalibrationK.ps CalibrationK.r Calibration.Learnt κs a x → Allows CalibrationK.ps CalibrationK.r Calibration.Learnt κs b y → (x.result ≡ y.result) × (x.lent ≡ y.lent)
   calibration-same s e p q =
-      let w = words-equal (bytes_of a.0.values) (bytes_of b.0.values) (held-words a.0 b.0 s) in
-      let sizes : calibration_of b.0 (length a.1.0.now) (length a.1.1.0.now) (length a.1.1.1.0.now) ≡ calibration_of b.0 (length b.1.0.now) (length b.1.1.0.now) (length b.1.1.1.0.now) =
-      λ i. calibration_of b.0 (length (e i).0.now) (length (e i).1.0.now) (length (e i).1.1.0.now) in
-      let r = p.0 ∙ (gathered-answers a.0 b.0 s (length a.1.0.now) (length a.1.1.0.now) (length a.1.1.1.0.now) ∙ (sizes ∙ sym q.0)) in
-      let o = p.1.0 ∙ ((λ j. table_after (r j).refusal (offset_at (w j)) (e j).0.now) ∙ sym q.1.0) in
-      let l = p.1.1.0 ∙ ((λ j. table_after (r j).refusal (alpha_at (w j)) (e j).1.0.now) ∙ sym q.1.1.0) in
-      let k = p.1.1.1 ∙ ((λ j. table_after (r j).refusal (kta_at (w j)) (e j).1.1.0.now) ∙ sym q.1.1.1) in
+      let w = words-equal (bytes_of a.0.now.values) (bytes_of b.0.now.values) (held-words a.0.now b.0.now s) in
+      let sizes : calibration_of b.0.now (length a.1.0.now) (length a.1.1.0.now) (length a.1.1.1.0.now) ≡ calibration_of b.0.now (length b.1.0.now) (length b.1.1.0.now) (length b.1.1.1.0.now) =
+      λ i. calibration_of b.0.now (length (e i).0.now) (length (e i).1.0.now) (length (e i).1.1.0.now) in
+      let r = p.0 ∙ (gathered-answers a.0.now b.0.now s (length a.1.0.now) (length a.1.1.0.now) (length a.1.1.1.0.now) ∙ (sizes ∙ sym q.0)) in
+      let o = p.1.0 ∙ ((λ j. table_after (verdict_of (r j)) (offset_at (w j)) (e j).0.now) ∙ sym q.1.0) in
+      let l = p.1.1.0 ∙ ((λ j. table_after (verdict_of (r j)) (alpha_at (w j)) (e j).1.0.now) ∙ sym q.1.1.0) in
+      let k = p.1.1.1 ∙ ((λ j. table_after (verdict_of (r j)) (kta_at (w j)) (e j).1.1.0.now) ∙ sym q.1.1.1) in
       (r, λ i. (tt, (o i, (l i, (k i, tt)))))

@@ -13,11 +13,14 @@ use lib.IntN.{pos}
 use lib.ListN.{length, get_or, drop, get_or-append}
 use contract.Lifetimes.{Lfts}
 use borrow.Fn.Kinds.{Dens}
+use Rattle.std.specs.Prelude.{Result, Ok, Err}
+use Rattle.std.specs.Result.{result_unwrap_or}
 use Rattle.exact.specs.Dyadic.{plus_zero}
-use Rattle.refusal.specs.Code.{code_of, accepted_by, or_else}
+use Rattle.refusal.specs.Code.{code_of, accepted_by, or_else, granted, Verdict, accepted, verdict_of}
 use Rattle.refusal.specs.declared.Refusal.{Refusal}
-use Rattle.refusal.specs.declared.Refusal.TheVariants.{None, ImageLength, ShortSlice}
-use Rattle.refusal.proofs.Order.{or-refused, earlier-accepted, later-accepted}
+use Rattle.refusal.specs.declared.Refusal.TheVariants.{ImageLength, ShortSlice}
+use Rattle.refusal.proofs.Order.{or-refused, earlier-accepted, later-accepted, granted-verdict}
+use Rattle.refusal.proofs.Apart.{accepted-none}
 use Rattle.util.specs.Words.{word_at}
 use Rattle.util.specs.Lists.{tab}
 use Rattle.util.proofs.Filled.{tab-at, tab-length}
@@ -26,10 +29,9 @@ use Rattle.page.proofs.Rule.{others-uncut}
 use Rattle.tables.specs.Entries.{offset_at, alpha_at, kta_at}
 use Rattle.eeprom.specs.Image.{image_words}
 use Rattle.eeprom.specs.Decoding.{refusal_of, decoded_of, table_after}
-use Rattle.eeprom.specs.declared.Decoded.{Decoded}
 use Rattle.pixel.specs.Needed.{needed_by, needs}
-use Rattle.pixel.specs.Answer.{length_refusal, past_refusal, tests_of, pixel_fault, pixel_refusal, answer_with, pixel_of}
-use Rattle.pixel.specs.declared.PixelAnswer.{PixelAnswer}
+use Rattle.pixel.specs.Answer.{length_refusal, past_refusal, tests_of, pixel_fault, pixel_refusal, answer_with, answered, pixel_of}
+use Rattle.pixel.specs.declared.PixelEntries.{PixelEntries}
 use Rattle.pixel.proofs.Exactly.{within, answered-refusal}
 use Rattle.pixel.proofs.Sameness.{same-single, same-needed}
 use Rattle.pixel.proofs.Promises.{as-decoded, decoder-single}
@@ -44,10 +46,10 @@ use Rattle.layout.specs.GatheringBytes.{gathering_in}
 use Rattle.mofuleka.specs.Answers.{refusal_word, short_for}
 use Rattle.mofuleka.specs.Images.{lent_after}
 use Rattle.mofuleka.specs.Gatherings.{stored_words}
-use Rattle.mofuleka.specs.Pixels.{bytes_at, slice_pixel_refusal, stored_pixel_refusal}
+use Rattle.mofuleka.specs.Pixels.{numbers, bytes_at, slice_pixel_refusal, stored_pixel_refusal}
 use Rattle.mofuleka.proofs.Words.{zero-accepted}
 use Rattle.mofuleka.proofs.Lent.{lent_same}
-use Rattle.mofuleka.proofs.Single.{numbers, answered-numbers, standing}
+use Rattle.mofuleka.proofs.Single.{standing}
 use Rattle.acceptance.specs.Determined.{Ending, Allows}
 use Rattle.eeprom.proofs.from_data.Kinds as FromDataK
 use Rattle.eeprom.proofs.from_data.Reads as FromData
@@ -59,7 +61,7 @@ use Rattle.pixel.proofs.pixel.Kinds as PixelK
 use Rattle.pixel.proofs.pixel.Reads as Pixel
 
 -- ---- the library: a call of the decoder and a call for one pixel, of the same image
-entry : {A : Type 0} (r : Refusal) (f : ℕ → A) (before after : List A) (p : ℕ) (z : A) → r ≡ None → after ≡ table_after r f before → p < 768 → get_or after p z ≡ f p
+entry : {A : Type 0} (r : Verdict) (f : ℕ → A) (before after : List A) (p : ℕ) (z : A) → r ≡ accepted → after ≡ table_after r f before → p < 768 → get_or after p z ≡ f p
 entry {A} r f before after p z accepted left h =
     let whole : after ≡ tab f 768 ++ drop 768 before = left ∙ rw accepted in
     ap (λ (l : List A). get_or l p z) whole
@@ -73,36 +75,36 @@ module _ (κs : Lfts 4) (a : Dens κs FromDataK.ps) (x : Ending FromDataK.ps Fro
   abbrev number : ℕ
   number = b.1.0
 
-  decoder : x.result.refusal ≡ refusal_of image (length a.1.0.now) (length a.1.1.0.now) (length a.1.1.1.0.now)
+  decoder : verdict_of x.result ≡ refusal_of image (length a.1.0.now) (length a.1.1.0.now) (length a.1.1.1.0.now)
   unfolding decoded_of
-  decoder = ap (λ (d : Decoded). d.refusal) p.0
+  decoder = ap verdict_of p.0 ∙ granted-verdict (refusal_of image (length a.1.0.now) (length a.1.1.0.now) (length a.1.1.1.0.now)) _
 
   single : y.result ≡ pixel_of image number
   single = q ∙ ap (λ (i : List ℕ). pixel_of i number) same
 
   -- where the decoder accepts
-  pub pixel-entries : x.result.refusal ≡ None → number < 768
-      → y.result ≡ answer_with None (get_or x.lent.1.0 number (pos 0)) (get_or x.lent.1.1.0 number plus_zero) (get_or x.lent.1.1.1.0 number plus_zero)
+  pub pixel-entries : verdict_of x.result ≡ accepted → number < 768
+      → y.result ≡ answer_with accepted (get_or x.lent.1.0 number (pos 0)) (get_or x.lent.1.1.0 number plus_zero) (get_or x.lent.1.1.1.0 number plus_zero)
   pixel-entries e h =
       let w = image_words image in
-      let o = entry x.result.refusal (offset_at w) a.1.0.now x.lent.1.0 number (pos 0) e p.1.0 h in
-      let l = entry x.result.refusal (alpha_at w) a.1.1.0.now x.lent.1.1.0 number plus_zero e p.1.1.0 h in
-      let k = entry x.result.refusal (kta_at w) a.1.1.1.0.now x.lent.1.1.1.0 number plus_zero e p.1.1.1 h in
-      single ∙ (as-decoded image _ _ _ number (sym decoder ∙ e) h ∙ (λ i. answer_with None (sym o i) (sym l i) (sym k i)))
+      let o = entry (verdict_of x.result) (offset_at w) a.1.0.now x.lent.1.0 number (pos 0) e p.1.0 h in
+      let l = entry (verdict_of x.result) (alpha_at w) a.1.1.0.now x.lent.1.1.0 number plus_zero e p.1.1.0 h in
+      let k = entry (verdict_of x.result) (kta_at w) a.1.1.1.0.now x.lent.1.1.1.0 number plus_zero e p.1.1.1 h in
+      single ∙ (as-decoded image _ _ _ number (sym decoder ∙ e) h ∙ (λ i. answer_with accepted (sym o i) (sym l i) (sym k i)))
 
   -- where it refuses for what is in the image, with the pixel that it names
-  pub pixel-named : (x.result.refusal ≡ None → ⊥) → (x.result.refusal ≡ ImageLength → ⊥) → (x.result.refusal ≡ ShortSlice → ⊥) → number ≡ (code_of x.result.refusal).place
-      → y.result.refusal ≡ x.result.refusal
+  pub pixel-named : (verdict_of x.result ≡ accepted → ⊥) → (verdict_of x.result ≡ Err ImageLength → ⊥) → (verdict_of x.result ≡ Err ShortSlice → ⊥) → number ≡ (code_of (verdict_of x.result)).place
+      → verdict_of y.result ≡ verdict_of x.result
   pixel-named some long room named =
-      let s = decoder-single image _ _ _ x.result.refusal some long room (sym decoder) in
-      ap (λ (d : PixelAnswer). d.refusal) single ∙ (answered-refusal (pixel_refusal image number) (image_words image) number ∙ (ap (pixel_refusal image) named ∙ s.1))
+      let s = decoder-single image _ _ _ (verdict_of x.result) some long room (sym decoder) in
+      ap verdict_of single ∙ (answered-refusal (pixel_refusal image number) (image_words image) number ∙ (ap (pixel_refusal image) named ∙ s.1))
 
 -- ---- the C interface: an answer word, and what is laid into the slice
-pub record PixelLaid (f : Refusal) (w : ℕ → ℕ) (p : ℕ) (before : List ℕ) (r : ℕ) (after : List ℕ) : Type 0 where
+pub record PixelLaid (f : Verdict) (w : ℕ → ℕ) (p : ℕ) (before : List ℕ) (r : ℕ) (after : List ℕ) : Type 0 where
   pub answers : r ≡ refusal_word f
   pub lays : after ≡ lent_after (eqb r 0) (bytes_at w p) before
 
-alike : {f g : Refusal} {v w : ℕ → ℕ} {p : ℕ} {before : List ℕ} {r q : ℕ} {x y : List ℕ} → f ≡ g → (accepted_by f ≡ true → bytes_at v p ≡ bytes_at w p)
+alike : {f g : Verdict} {v w : ℕ → ℕ} {p : ℕ} {before : List ℕ} {r q : ℕ} {x y : List ℕ} → f ≡ g → (accepted_by f ≡ true → bytes_at v p ≡ bytes_at w p)
     → PixelLaid f v p before r x → PixelLaid g w p before q y → (r ≡ q) × (x ≡ y)
 alike {f} {g} {v} {w} {p} {before} {r} same bytes a b =
     let word = a.answers ∙ (ap refusal_word same ∙ sym b.answers) in
@@ -111,11 +113,20 @@ alike {f} {g} {v} {w} {p} {before} {r} same bytes a b =
 
 -- words that agree in what pixel p needs
 same-fault : (v w : ℕ → ℕ) (p : ℕ) → map v (needed_by p) ≡ map w (needed_by p) → pixel_fault v p ≡ pixel_fault w p
-same-fault v w p e = sym (answered-refusal (pixel_fault v p) v p) ∙ (ap (λ (d : PixelAnswer). d.refusal) (same-single v w p e) ∙ answered-refusal (pixel_fault w p) w p)
+same-fault v w p e = sym (answered-refusal (pixel_fault v p) v p) ∙ (ap verdict_of (same-single v w p e) ∙ answered-refusal (pixel_fault w p) w p)
+
+-- the entries of pixel p over the words w
+abbrev entries : (ℕ → ℕ) → ℕ → PixelEntries
+entries w p = record { offset = offset_at w p; alpha = alpha_at w p; k_ta = kta_at w p }
 
 same_bytes : (v w : ℕ → ℕ) (p : ℕ) → map v (needed_by p) ≡ map w (needed_by p) → accepted_by (pixel_fault v p) ≡ true → bytes_at v p ≡ bytes_at w p
+unfolding answered
 same_bytes v w p e ok =
-    sym (answered-numbers (pixel_fault v p) v p ok) ∙ (ap numbers (same-single v w p e) ∙ answered-numbers (pixel_fault w p) w p (ap accepted_by (sym (same-fault v w p e)) ∙ ok))
+    let given : (r : Verdict) (x : PixelEntries) → accepted_by r ≡ true → granted r x ≡ Ok x = λ r x h. ap (λ (s : Verdict). granted s x) (accepted-none r h) in
+    let other = ap accepted_by (sym (same-fault v w p e)) ∙ ok in
+    let both : ◌≡◌ {A = Result PixelEntries Refusal} (Ok (entries v p)) (Ok (entries w p)) =
+    sym (given (pixel_fault v p) (entries v p) ok) ∙ (same-single v w p e ∙ given (pixel_fault w p) (entries w p) other) in
+    ap (λ (r : Result PixelEntries Refusal). numbers (result_unwrap_or r (entries v p))) both
 
 same-slice : (i j : List ℕ) (p n : ℕ) → length i ≡ length j → ((k : ℕ) → needs p k ≡ true → word_at i k ≡ word_at j k) → slice_pixel_refusal i p n ≡ slice_pixel_refusal j p n
 same-slice i j p n long same = go (accepted_by (tests_of (length j) p)) refl
@@ -135,12 +146,12 @@ slice-bytes i j p n same ok =
     same_bytes (image_words i) (image_words j) p (same-needed i j p pixel same) (later-accepted short fault (later-accepted tests (or_else short fault) ok))
 
 -- past the tests: of a gathering whose needed words are held, and of an image
-stored : (s : List ℕ) (p n : ℕ) → gathering_size ≤ length s → p < 768 → fault_among (gathering_in s) (needed_by p) ≡ None
+stored : (s : List ℕ) (p n : ℕ) → gathering_size ≤ length s → p < 768 → fault_among (gathering_in s) (needed_by p) ≡ accepted
     → stored_pixel_refusal s p n ≡ or_else (short_for pixel_size n) (pixel_fault (gathered_words (gathering_in s)) p)
 stored s p n long pixel none =
     ap (λ (t : Bool).
     let g = cond t fresh_state (gathering_in s) in
-    or_else (or_else (past_refusal p) (cond t ShortSlice None)) (or_else (short_for pixel_size n) (or_else (fault_among g (needed_by p)) (pixel_fault (gathered_words g) p))))
+    or_else (or_else (past_refusal p) (cond t (Err ShortSlice) accepted)) (or_else (short_for pixel_size n) (or_else (fault_among g (needed_by p)) (pixel_fault (gathered_words g) p))))
     (le-ltb (length s) gathering_size long)
     ∙ rw (lt-ltb p 768 pixel, none)
 

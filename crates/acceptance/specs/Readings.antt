@@ -2,21 +2,20 @@
 -- An image is its bytes, and is decoded into three tables of 768 zeros. An answer begins with the refusal's number, table and place; the numbers asked for
 -- follow, f32s as their 32 bits.
 -- Assumes nothing.
-use Rattle.std.specs.Prelude.{ℕ, ◌-◌, cond, List, [], ◌∷◌, ◌++◌, map, eqb, ℤ, pos, negsuc, Float, replicate, take}
+use Rattle.std.specs.Prelude.{ℕ, ◌-◌, cond, List, [], ◌∷◌, ◌++◌, map, eqb, ℤ, pos, negsuc, Float, replicate, take, Option, Some, None, Result}
+use Rattle.std.specs.Result.{result_unwrap_or}
 use Rattle.std.specs.Float.{binary32}
 use Rattle.std.specs.Float.Ieee.{to_bits}
 use Rattle.exact.specs.Dyadic.{plus_zero}
-use Rattle.refusal.specs.Code.{code_of}
-use Rattle.refusal.specs.declared.Refusal.{Refusal}
+use Rattle.refusal.specs.Code.{code_of, Verdict, verdict_of}
 use Rattle.util.specs.Bytes.{bytes_of}
+use Rattle.refusal.specs.declared.Refusal.{Refusal}
+use Rattle.record.specs.Fields.{blank_record}
 use Rattle.record.specs.declared.Record.{Record}
-use Rattle.record.specs.declared.Optional.{Optional}
-use Rattle.record.specs.declared.Optional.TheVariants.{Absent, Given}
 use Rattle.util.specs.Lists.{tab}
 use Rattle.tables.specs.Entries.{offset_at, alpha_at, kta_at}
 use Rattle.eeprom.specs.Image.{image_words}
 use Rattle.eeprom.specs.Decoding.{decoded_of, table_after}
-use Rattle.eeprom.specs.declared.Decoded.{Decoded}
 use Rattle.gathering.specs.Cells.{value_of, mark_of}
 use Rattle.gathering.specs.State.{fresh_state, with_block, cell_at}
 
@@ -50,7 +49,7 @@ unfoldable pub image_of : List Set → List ℕ
 image_of s = bytes_of (tab (words_set s) 832)
 
 -- what the decoder answers to an image, and what it leaves in the three tables
-abbrev pub decoded : List ℕ → Decoded
+abbrev pub decoded : List ℕ → Result Record Refusal
 decoded bytes = decoded_of bytes 768 768 768
 
 pub record Left : Type 0 where
@@ -58,22 +57,22 @@ pub record Left : Type 0 where
   pub alpha : List Float
   pub kta : List Float
 
-abbrev pub left : Decoded → (ℕ → ℕ) → Left
+abbrev pub left : Result Record Refusal → (ℕ → ℕ) → Left
 left d w = record {
-  offset = table_after d.refusal (offset_at w) (replicate 768 (pos 0));
-  alpha = table_after d.refusal (alpha_at w) (replicate 768 plus_zero);
-  kta = table_after d.refusal (kta_at w) (replicate 768 plus_zero);
+  offset = table_after (verdict_of d) (offset_at w) (replicate 768 (pos 0));
+  alpha = table_after (verdict_of d) (alpha_at w) (replicate 768 plus_zero);
+  kta = table_after (verdict_of d) (kta_at w) (replicate 768 plus_zero);
 }
 
-abbrev pub coded : Refusal → List ℤ
+abbrev pub coded : Verdict → List ℤ
 coded r = pos (code_of r).number ∷ pos (code_of r).table ∷ pos (code_of r).place ∷ []
 
 abbrev pub bits : Float → ℤ
 bits x = pos (to_bits binary32 x)
 
-abbrev pub optional : Optional → List ℤ
-optional Absent = []
-optional (Given x) = bits x ∷ []
+abbrev pub optional : Option Float → List ℤ
+optional None = []
+optional (Some x) = bits x ∷ []
 
 unfoldable pub asked : Record → Left → Asked → List ℤ
 asked r t refusal = []
@@ -86,16 +85,16 @@ asked r t gradient = optional r.temperature_gradient_coefficient
 asked r t interleave = map bits r.interleave_correction_pixels ++ (bits r.interleave_correction_cp ∷ [])
 asked r t corners = r.corner_temperatures
 
--- the whole answer of a decoded image with the words w
-abbrev pub told : Decoded → (ℕ → ℕ) → Asked → List ℤ
-told d w a = coded d.refusal ++ asked d.«record» (left d w) a
+-- the whole answer of a decoded image with the words w; beside a refusal a blank record is asked
+abbrev pub told : Result Record Refusal → (ℕ → ℕ) → Asked → List ℤ
+told d w a = coded (verdict_of d) ++ asked (result_unwrap_or d blank_record) (left d w) a
 
 unfoldable pub answer : Question → List ℤ
 answer (zeros n) = told (decoded (replicate n 0)) (image_words (replicate n 0)) refusal
 answer (image s a) = told (decoded (image_of s)) (image_words (image_of s)) a
 answer (block b) =
     let after = with_block fresh_state b in
-    coded after.refusal ++ (pos (mark_of (cell_at after.gathering 831)) ∷ pos (value_of (cell_at after.gathering 831)) ∷ [])
+    coded after.verdict ++ (pos (mark_of (cell_at after.gathering 831)) ∷ pos (value_of (cell_at after.gathering 831)) ∷ [])
 
 -- a refusal's three numbers; none is 0 0 0
 abbrev pub none : List ℤ

@@ -3,7 +3,7 @@
 #![tactic(auto)]
 
 ghost use Rattle.std.specs.Prelude.{◌≡◌, eqb};
-ghost use Rattle.refusal.specs.Code.{code_of};
+ghost use Rattle.refusal.specs.Code.{code_of, accepted_by};
 ghost use Rattle.util.specs.Lists.{tab};
 ghost use Rattle.record.specs.Fields.{record_of};
 ghost use Rattle.tables.specs.Entries.{offset_at, alpha_at, kta_at};
@@ -14,9 +14,31 @@ ghost use Rattle.bench.specs.Bench.{own_refusal};
 
 use eeprom::from_data;
 use layout::{RECORD_BYTES, put_record};
-use refusal::{accepted, code_of};
+use refusal::{Refusal, Verdict, code_of};
 
-// Decodes an image into three tables and a record's bytes, and answers with the refusal's number.
+// Decodes an image into three tables and a record's bytes.
+fn decode(
+    image: &[u8],
+    offset: &mut [i16],
+    alpha: &mut [f32],
+    k_ta: &mut [f32],
+    record: &mut [u8],
+) -> Verdict
+    ensures answer { result ≡ own_refusal image.now offset.old alpha.old k_ta.old «record».old }
+    ensures offset { offset.new ≡ lent_after (accepted_by result) (tab (offset_at (image_words image.now)) 768) offset.old }
+    ensures alpha { alpha.new ≡ lent_after (accepted_by result) (tab (alpha_at (image_words image.now)) 768) alpha.old }
+    ensures k_ta { k_ta.new ≡ lent_after (accepted_by result) (tab (kta_at (image_words image.now)) 768) k_ta.old }
+    ensures record { «record».new ≡ lent_after (accepted_by result) (record_bytes (record_of (image_words image.now))) «record».old }
+{
+    if record.len() < RECORD_BYTES {
+        return Err(Refusal::ShortSlice);
+    }
+    let decoded = from_data(image, offset, alpha, k_ta)?;
+    put_record(decoded, record);
+    Ok(())
+}
+
+// The same, which answers with the refusal's number.
 pub fn bench_from_data(
     image: &[u8],
     offset: &mut [i16],
@@ -30,14 +52,5 @@ pub fn bench_from_data(
     ensures k_ta { k_ta.new ≡ lent_after (eqb result 0) (tab (kta_at (image_words image.now)) 768) k_ta.old }
     ensures record { «record».new ≡ lent_after (eqb result 0) (record_bytes (record_of (image_words image.now))) «record».old }
 {
-    if record.len() < RECORD_BYTES {
-        return 2;
-    }
-    let decoded = from_data(image, offset, alpha, k_ta);
-    let refusal = decoded.refusal;
-    if accepted(refusal) {
-        put_record(decoded.record, record);
-        return 0;
-    }
-    code_of(refusal).number
+    code_of(decode(image, offset, alpha, k_ta, record)).number
 }

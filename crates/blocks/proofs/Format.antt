@@ -10,24 +10,18 @@ use native.Mathlib.Omega.{arith}
 use lib.Dec.{lit<}
 use lib.ListN.{length, get_or, drop, get_or-eq_default}
 use lib.Seq.{ext_get_or, get_or-drop}
+use Rattle.std.specs.Prelude.{Result, Ok, Err}
+use Rattle.refusal.specs.Code.{accepted, verdict_of}
+use Rattle.refusal.specs.declared.Refusal.{Refusal}
+use Rattle.refusal.proofs.Apart.{refused-accepted}
 use Rattle.util.specs.Words.{word_at, listed}
 use Rattle.util.specs.Bytes.{two, flat, bytes_of}
 use Rattle.util.specs.Lists.{tab}
 use Rattle.util.proofs.Filled.{tab-at, tab-length, tab-same}
-use Rattle.refusal.specs.declared.Refusal.{Refusal}
-use Rattle.refusal.specs.declared.Refusal.TheVariants.{None}
-use Rattle.blocks.specs.Blocks.{block_bytes, IsBlock, count_field, version_of, body_of, read_block, why_refused, block_refusal}
+use Rattle.blocks.specs.Blocks.{block_bytes, IsBlock, count_field, version_of, body_of, block_of, read_block, block_refusal}
 use Rattle.blocks.specs.declared.Block.{Block}
-use Rattle.blocks.specs.declared.Block.TheVariants.{Words, Refused}
 use Rattle.util.proofs.Bytes.{Bytes, word-of-bytes, length-bytes}
-use Rattle.blocks.proofs.Refusals.{Way, unsized, uncounted, other, beyond, taken, way, Taken, taken-exactly}
-
-never : (b : List ℕ) (why : Refusal) → Way b → read_block b ≡ Refused why → why ≡ None → ⊥
-never b why (unsized n d) e a = let z : ◌≡◌ {A = ℕ} 0 1 = cc in omega arith
-never b why (uncounted s n d) e a = let z : ◌≡◌ {A = ℕ} 0 1 = cc in omega arith
-never b why (other n c v d) e a = let z : ◌≡◌ {A = ℕ} 0 1 = cc in omega arith
-never b why (beyond n c v r d) e a = let z : ◌≡◌ {A = ℕ} 0 1 = cc in omega arith
-never b why (taken n c v r d) e a = let z : ◌≡◌ {A = ℕ} 0 1 = cc in omega arith
+use Rattle.blocks.proofs.Refusals.{Taken, taken-exactly}
 
 -- ---- the format
 -- two bytes and their number
@@ -123,10 +117,10 @@ word_small b h n k = go (dec_lt k n)
 
 -- a block of these bytes is accepted with its first word and its words exactly where it has the format
 module _ (b : List ℕ) (bytes : Bytes b) where
-  pub accepted-with : (first : ℕ) (words : List ℕ) → ((read_block b ≡ Words first (length words)) × (words ≡ words_of b (length words))) ↔ IsBlock b first words
+  pub accepted-with : (first : ℕ) (words : List ℕ) → ((read_block b ≡ Ok (block_of first (length words))) × (words ≡ words_of b (length words))) ↔ IsBlock b first words
   accepted-with first words = (λ e. to e, λ k. from k)
     where
-      to : (read_block b ≡ Words first (length words)) × (words ≡ words_of b (length words)) → IsBlock b first words
+      to : (read_block b ≡ Ok (block_of first (length words))) × (words ≡ words_of b (length words)) → IsBlock b first words
       to e =
           let t = (taken-exactly b first (length words)).0 e.0 in
           record {
@@ -137,7 +131,7 @@ module _ (b : List ℕ) (bytes : Bytes b) where
             each = λ k. subst (λ (l : List ℕ). listed l k < 0x1_0000) (sym e.1) (word_small b bytes (length words) k);
           }
 
-      from : IsBlock b first words → (read_block b ≡ Words first (length words)) × (words ≡ words_of b (length words))
+      from : IsBlock b first words → (read_block b ≡ Ok (block_of first (length words))) × (words ≡ words_of b (length words))
       from k = (
         (taken-exactly b first (length words)).1 (taken-if b first words k),
         ext_get_or 0 words (words_of b (length words)) (sym (tab-length (λ m. word_at (body_of b) (suc m)) (length words))) (λ i l.
@@ -145,11 +139,12 @@ module _ (b : List ℕ) (bytes : Bytes b) where
       )
 
   -- so it is accepted exactly where there are such a first word and such words
-  pub accepted-exactly : (block_refusal b ≡ None) ↔ ((first : ℕ) × (words : List ℕ) × IsBlock b first words)
-  accepted-exactly = (λ e. to (read_block b) refl e, λ k. ap why_refused ((accepted-with k.0 k.1).1 k.2).0)
+  pub accepted-exactly : (block_refusal b ≡ accepted) ↔ ((first : ℕ) × (words : List ℕ) × IsBlock b first words)
+  accepted-exactly = (λ e. to (read_block b) refl e, λ k. ap verdict_of ((accepted-with k.0 k.1).1 k.2).0)
     where
-      to : (k : Block) → read_block b ≡ k → block_refusal b ≡ None → (first : ℕ) × (words : List ℕ) × IsBlock b first words
-      to (Words first n) e a =
+      to : (k : Result Block Refusal) → read_block b ≡ k → block_refusal b ≡ accepted → (first : ℕ) × (words : List ℕ) × IsBlock b first words
+      to (Ok k) e a =
+          let n = k.count in
           let long : n ≡ length (words_of b n) = sym (tab-length (λ m. word_at (body_of b) (suc m)) n) in
-          (first, words_of b n, (accepted-with first (words_of b n)).0 (e ∙ ap (Words first) long, ap (words_of b) long))
-      to (Refused why) e a = absurd (never b why (way b) e (sym (ap why_refused e) ∙ a))
+          (k.first, words_of b n, (accepted-with k.first (words_of b n)).0 (e ∙ ap (λ (m : ℕ). Ok (block_of k.first m)) long, ap (words_of b) long))
+      to (Err why) e a = absurd (refused-accepted (sym (ap verdict_of e) ∙ a))

@@ -1,7 +1,7 @@
 -- The four tests of a block in their order, each refusal exactly when: L counts the bytes after it, it is that of 1 to 64 words, the version is 1, and the words lie among the 832.
 -- Assumes nothing.
 use Prim.Native.Nat.{ℕ, ◌+◌, ◌*◌, ◌%◌, ◌≤◌, ◌<◌}
-use mathlib.Core.Path.{◌≡◌, refl, ap, ap₂, subst, ◌∙◌}
+use mathlib.Core.Path.{◌≡◌, refl, sym, ap, ap₂, subst, ◌∙◌}
 use mathlib.Core.Bool.{Bool, true, false}
 use mathlib.Core.Logic.{◌↔◌}
 use mathlib.Core.List.{List}
@@ -9,9 +9,15 @@ use native.Mathlib.Omega.{arith}
 use borrow.Author.Tests.{ltb-true, ltb-false, eqb-true, eqb-false}
 use lib.Dec.{eqb, ltb}
 use lib.ListN.{length}
+use Rattle.std.specs.Prelude.{Result, Ok, Err}
+use Rattle.refusal.specs.Code.{verdict_of}
+use Rattle.refusal.specs.declared.Refusal.{Refusal}
 use Rattle.refusal.specs.declared.Refusal.TheVariants.{BlockLength, BlockCount, BlockVersion, BlockRange}
-use Rattle.blocks.specs.Blocks.{count_field, largest, version_of, first_word_of, word_count, read_block, why_refused, block_refusal}
-use Rattle.blocks.specs.declared.Block.TheVariants.{Words, Refused}
+use Rattle.blocks.specs.Blocks.{count_field, largest, version_of, first_word_of, word_count, block_of, read_block, block_refusal}
+use Rattle.blocks.specs.declared.Block.{Block}
+
+same_block : {x y : Block} → ◌≡◌ {A = Result Block Refusal} (Ok x) (Ok y) → x ≡ y
+same_block e = cc
 
 module _ (b : List ℕ) where
   -- there is an L, and it counts the bytes after it
@@ -28,11 +34,11 @@ module _ (b : List ℕ) where
 
   -- the five ways that a block goes
   pub data Way : Type 0 where
-    unsized : (Sized → ⊥) → read_block b ≡ Refused BlockLength → Way
-    uncounted : Sized → ((n : ℕ) → Counted n → ⊥) → read_block b ≡ Refused BlockCount → Way
-    other : (n : ℕ) → Counted n → (version_of b ≡ 1 → ⊥) → read_block b ≡ Refused BlockVersion → Way
-    beyond : (n : ℕ) → Counted n → version_of b ≡ 1 → 832 < first_word_of b + n → read_block b ≡ Refused BlockRange → Way
-    taken : (n : ℕ) → Counted n → version_of b ≡ 1 → first_word_of b + n ≤ 832 → read_block b ≡ Words (first_word_of b) n → Way
+    unsized : (Sized → ⊥) → read_block b ≡ Err BlockLength → Way
+    uncounted : Sized → ((n : ℕ) → Counted n → ⊥) → read_block b ≡ Err BlockCount → Way
+    other : (n : ℕ) → Counted n → (version_of b ≡ 1 → ⊥) → read_block b ≡ Err BlockVersion → Way
+    beyond : (n : ℕ) → Counted n → version_of b ≡ 1 → 832 < first_word_of b + n → read_block b ≡ Err BlockRange → Way
+    taken : (n : ℕ) → Counted n → version_of b ≡ 1 → first_word_of b + n ≤ 832 → read_block b ≡ Ok (block_of (first_word_of b) n) → Way
 
   pub way : Way
   way = go (ltb (length b) 2) (eqb (length b) (count_field b + 2)) (ltb (count_field b) 5) (ltb largest (count_field b)) (eqb (count_field b % 2) 0) (eqb (version_of b) 1) (ltb 832 (first_word_of b + word_count b)) refl refl refl refl refl refl refl
@@ -61,75 +67,75 @@ module _ (b : List ℕ) where
           taken (word_count b) (counted e1 e2 e3 e4 e5) (eqb-true (version_of b) 1 e6) (ltb-false 832 (first_word_of b + word_count b) e7) (rw (e1, e2, e3, e4, e5, e6, e7))
 
   -- each refusal exactly when
-  pub refusal-5 : (block_refusal b ≡ BlockLength) ↔ (Sized → ⊥)
+  pub refusal-5 : (block_refusal b ≡ Err BlockLength) ↔ (Sized → ⊥)
   refusal-5 = (λ e. to way e, λ n. from way n)
     where
-      to : Way → block_refusal b ≡ BlockLength → Sized → ⊥
+      to : Way → block_refusal b ≡ Err BlockLength → Sized → ⊥
       to (unsized n d) e = n
       to (uncounted s n d) e = let z : ◌≡◌ {A = ℕ} 0 1 = cc in absurd (omega arith)
       to (other n c v d) e = let z : ◌≡◌ {A = ℕ} 0 1 = cc in absurd (omega arith)
       to (beyond n c v r d) e = let z : ◌≡◌ {A = ℕ} 0 1 = cc in absurd (omega arith)
       to (taken n c v r d) e = let z : ◌≡◌ {A = ℕ} 0 1 = cc in absurd (omega arith)
 
-      from : Way → (Sized → ⊥) → block_refusal b ≡ BlockLength
-      from (unsized n d) m = ap why_refused d
+      from : Way → (Sized → ⊥) → block_refusal b ≡ Err BlockLength
+      from (unsized n d) m = ap verdict_of d
       from (uncounted s n d) m = absurd (m s)
       from (other n c v d) m = absurd (m c.sized)
       from (beyond n c v r d) m = absurd (m c.sized)
       from (taken n c v r d) m = absurd (m c.sized)
 
-  pub refusal-6 : (block_refusal b ≡ BlockCount) ↔ (Sized × ((n : ℕ) → Counted n → ⊥))
+  pub refusal-6 : (block_refusal b ≡ Err BlockCount) ↔ (Sized × ((n : ℕ) → Counted n → ⊥))
   refusal-6 = (λ e. to way e, λ k. from way k)
     where
-      to : Way → block_refusal b ≡ BlockCount → Sized × ((n : ℕ) → Counted n → ⊥)
+      to : Way → block_refusal b ≡ Err BlockCount → Sized × ((n : ℕ) → Counted n → ⊥)
       to (unsized n d) e = let z : ◌≡◌ {A = ℕ} 0 1 = cc in absurd (omega arith)
       to (uncounted s n d) e = (s, n)
       to (other n c v d) e = let z : ◌≡◌ {A = ℕ} 0 1 = cc in absurd (omega arith)
       to (beyond n c v r d) e = let z : ◌≡◌ {A = ℕ} 0 1 = cc in absurd (omega arith)
       to (taken n c v r d) e = let z : ◌≡◌ {A = ℕ} 0 1 = cc in absurd (omega arith)
 
-      from : Way → Sized × ((n : ℕ) → Counted n → ⊥) → block_refusal b ≡ BlockCount
+      from : Way → Sized × ((n : ℕ) → Counted n → ⊥) → block_refusal b ≡ Err BlockCount
       from (unsized n d) k = absurd (n k.0)
-      from (uncounted s n d) k = ap why_refused d
+      from (uncounted s n d) k = ap verdict_of d
       from (other n c v d) k = absurd (k.1 n c)
       from (beyond n c v r d) k = absurd (k.1 n c)
       from (taken n c v r d) k = absurd (k.1 n c)
 
-  pub refusal-7 : (block_refusal b ≡ BlockVersion) ↔ ((n : ℕ) × Counted n × (version_of b ≡ 1 → ⊥))
+  pub refusal-7 : (block_refusal b ≡ Err BlockVersion) ↔ ((n : ℕ) × Counted n × (version_of b ≡ 1 → ⊥))
   refusal-7 = (λ e. to way e, λ k. from way k)
     where
-      to : Way → block_refusal b ≡ BlockVersion → (n : ℕ) × Counted n × (version_of b ≡ 1 → ⊥)
+      to : Way → block_refusal b ≡ Err BlockVersion → (n : ℕ) × Counted n × (version_of b ≡ 1 → ⊥)
       to (unsized n d) e = let z : ◌≡◌ {A = ℕ} 0 1 = cc in absurd (omega arith)
       to (uncounted s n d) e = let z : ◌≡◌ {A = ℕ} 0 1 = cc in absurd (omega arith)
       to (other n c v d) e = (n, c, v)
       to (beyond n c v r d) e = let z : ◌≡◌ {A = ℕ} 0 1 = cc in absurd (omega arith)
       to (taken n c v r d) e = let z : ◌≡◌ {A = ℕ} 0 1 = cc in absurd (omega arith)
 
-      from : Way → (n : ℕ) × Counted n × (version_of b ≡ 1 → ⊥) → block_refusal b ≡ BlockVersion
+      from : Way → (n : ℕ) × Counted n × (version_of b ≡ 1 → ⊥) → block_refusal b ≡ Err BlockVersion
       from (unsized n d) k = absurd (n k.1.sized)
       from (uncounted s n d) k = absurd (n k.0 k.1)
-      from (other n c v d) k = ap why_refused d
+      from (other n c v d) k = ap verdict_of d
       from (beyond n c v r d) k = absurd (k.2 v)
       from (taken n c v r d) k = absurd (k.2 v)
 
   same_count : {m n : ℕ} → Counted m → Counted n → m ≡ n
   same_count c d = omega (arith, c.words, d.words)
 
-  pub refusal-8 : (block_refusal b ≡ BlockRange) ↔ ((n : ℕ) × Counted n × (version_of b ≡ 1) × (832 < first_word_of b + n))
+  pub refusal-8 : (block_refusal b ≡ Err BlockRange) ↔ ((n : ℕ) × Counted n × (version_of b ≡ 1) × (832 < first_word_of b + n))
   refusal-8 = (λ e. to way e, λ k. from way k)
     where
-      to : Way → block_refusal b ≡ BlockRange → (n : ℕ) × Counted n × (version_of b ≡ 1) × (832 < first_word_of b + n)
+      to : Way → block_refusal b ≡ Err BlockRange → (n : ℕ) × Counted n × (version_of b ≡ 1) × (832 < first_word_of b + n)
       to (unsized n d) e = let z : ◌≡◌ {A = ℕ} 0 1 = cc in absurd (omega arith)
       to (uncounted s n d) e = let z : ◌≡◌ {A = ℕ} 0 1 = cc in absurd (omega arith)
       to (other n c v d) e = let z : ◌≡◌ {A = ℕ} 0 1 = cc in absurd (omega arith)
       to (beyond n c v r d) e = (n, c, v, r)
       to (taken n c v r d) e = let z : ◌≡◌ {A = ℕ} 0 1 = cc in absurd (omega arith)
 
-      from : Way → (n : ℕ) × Counted n × (version_of b ≡ 1) × (832 < first_word_of b + n) → block_refusal b ≡ BlockRange
+      from : Way → (n : ℕ) × Counted n × (version_of b ≡ 1) × (832 < first_word_of b + n) → block_refusal b ≡ Err BlockRange
       from (unsized n d) k = absurd (n k.1.sized)
       from (uncounted s n d) k = absurd (n k.0 k.1)
       from (other n c v d) k = absurd (v k.2)
-      from (beyond n c v r d) k = ap why_refused d
+      from (beyond n c v r d) k = ap verdict_of d
       from (taken n c v r d) k = absurd (omega (arith, same_count c k.1, k.3))
 
   -- what is accepted
@@ -139,22 +145,23 @@ module _ (b : List ℕ) where
     pub starts : first_word_of b ≡ first
     pub among : first + n ≤ 832
 
-  pub taken-exactly : (first n : ℕ) → (read_block b ≡ Words first n) ↔ Taken first n
+  pub taken-exactly : (first n : ℕ) → (read_block b ≡ Ok (block_of first n)) ↔ Taken first n
   taken-exactly first n = (λ e. to way e, λ k. from way k)
     where
-      to : Way → read_block b ≡ Words first n → Taken first n
+      to : Way → read_block b ≡ Ok (block_of first n) → Taken first n
       to (unsized m d) e = let z : ◌≡◌ {A = ℕ} 0 1 = cc in absurd (omega arith)
       to (uncounted s m d) e = let z : ◌≡◌ {A = ℕ} 0 1 = cc in absurd (omega arith)
       to (other m c v d) e = let z : ◌≡◌ {A = ℕ} 0 1 = cc in absurd (omega arith)
       to (beyond m c v r d) e = let z : ◌≡◌ {A = ℕ} 0 1 = cc in absurd (omega arith)
       to (taken m c v r d) e =
-          let f : first_word_of b ≡ first = cc in
-          let l : m ≡ n = cc in
+          let k : block_of (first_word_of b) m ≡ block_of first n = same_block (sym d ∙ e) in
+          let f : first_word_of b ≡ first = ap (λ (x : Block). x.first) k in
+          let l : m ≡ n = ap (λ (x : Block). x.count) k in
           record { counted = subst Counted l c; version = v; starts = f; among = omega arith }
 
-      from : Way → Taken first n → read_block b ≡ Words first n
+      from : Way → Taken first n → read_block b ≡ Ok (block_of first n)
       from (unsized m d) k = absurd (m k.counted.sized)
       from (uncounted s m d) k = absurd (m n k.counted)
       from (other m c v d) k = absurd (v k.version)
       from (beyond m c v r d) k = absurd (omega (arith, same_count c k.counted, k.starts, k.among))
-      from (taken m c v r d) k = d ∙ ap₂ Words k.starts (same_count c k.counted)
+      from (taken m c v r d) k = d ∙ ap₂ (λ (f m : ℕ). Ok (block_of f m)) k.starts (same_count c k.counted)

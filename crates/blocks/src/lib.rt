@@ -8,32 +8,32 @@ ghost use Rattle.blocks.specs.Inner.Inside.{Inside};
 
 use refusal::Refusal;
 
-// A block's words, or why it is refused.
-#[derive(Clone, Copy)]
-pub enum Block {
-    Words { first: usize, count: usize },
-    Refused(Refusal),
+// A block's words: the number of the first one, and how many there are.
+#[derive(Clone, Copy, Debug, PartialEq, Eq)]
+pub struct Block {
+    pub first: usize,
+    pub count: usize,
 }
 
 // A block's words, or the first refusal that it earns.
-pub fn read_block(block: &[u8]) -> Block
+pub fn read_block(block: &[u8]) -> Result<Block, Refusal>
     ensures value { result ≡ read_block block.now }
     ensures inside { Inside block.now result }
 {
     let l = util::word(block, 0) as usize;
     if block.len() < 2 || block.len() != l + 2 {
-        return Block::Refused(Refusal::BlockLength);
+        return Err(Refusal::BlockLength);
     }
     if l < 5 || 131 < l || l % 2 == 0 {
-        return Block::Refused(Refusal::BlockCount);
+        return Err(Refusal::BlockCount);
     }
     if block[2] != 1 {
-        return Block::Refused(Refusal::BlockVersion);
+        return Err(Refusal::BlockVersion);
     }
     let first = util::word(&block[3..], 0) as usize;
     let count = (l - 3) / 2;
     if 832 < first + count {
-        return Block::Refused(Refusal::BlockRange);
+        return Err(Refusal::BlockRange);
     }
-    Block::Words { first, count }
+    Ok(Block { first, count })
 }

@@ -7,11 +7,10 @@ use mathlib.Core.Bool.{Bool, true, false, cond}
 use mathlib.Core.List.{List, [], ◌∷◌, map}
 use native.Mathlib.Nat.{zero-add}
 use native.Mathlib.Omega.{arith}
-use Rattle.refusal.specs.Code.{table_number, accepted_by, or_else}
+use Rattle.std.specs.Prelude.{Option, None, Some}
+use Rattle.refusal.specs.Code.{accepted_by, or_else, Verdict, accepted}
 use Rattle.refusal.specs.declared.Table.{Table}
 use Rattle.refusal.specs.declared.Table.TheVariants.{Offset, Alpha, Kta}
-use Rattle.refusal.specs.declared.Refusal.{Refusal}
-use Rattle.refusal.specs.declared.Refusal.TheVariants.{None}
 use Rattle.refusal.proofs.Apart.{accepted-none}
 use Rattle.refusal.proofs.Order.{or-passed, or-refused}
 use Rattle.util.specs.Sums.{in16}
@@ -19,9 +18,9 @@ use Rattle.steps.specs.Steps.{Step, value_in, refusal_in, first_outside}
 use Rattle.steps.proofs.Meaning.{found-pixel}
 use Rattle.walk.specs.Walk.{term_steps, pixel_steps, table_steps, walk}
 use Rattle.walk.proofs.Walked.{walk-order, walk-calm}
-use Rattle.explanation.specs.Explanation.{step_names, first_named, failure_in, refusal_for, table_of, table_in, pixel_in}
+use Rattle.explanation.specs.Explanation.{step_names, first_named, failure_in, refusal_for, table_in, pixel_in}
 use Rattle.explanation.specs.declared.Failure.{Failure}
-use Rattle.explanation.specs.declared.Failure.TheVariants.{Nothing, Row, Column, Remainder, Sum}
+use Rattle.explanation.specs.declared.Failure.TheVariants.{Row, Column, Remainder, Sum}
 
 -- ---- names and steps that go together
 module _ (t : Table) (p : ℕ) where
@@ -29,7 +28,7 @@ module _ (t : Table) (p : ℕ) where
   Paired [] [] = Unit {0}
   Paired [] (s ∷ steps) = ⊥
   Paired (f ∷ names) [] = ⊥
-  Paired (f ∷ names) (s ∷ steps) = (refusal_for f t p ≡ refusal_in s) × Paired names steps
+  Paired (f ∷ names) (s ∷ steps) = (refusal_for (Some f) t p ≡ refusal_in s) × Paired names steps
 
   first-of-both : (names : List Failure) (steps : List Step) → Paired names steps → first_outside steps ≡ refusal_for (first_named names (map value_in steps)) t p
   unfolding Paired first_outside first_named
@@ -39,7 +38,7 @@ module _ (t : Table) (p : ℕ) where
   first-of-both (f ∷ names) (s ∷ steps) h = go (in16 (value_in s)) (first-of-both names steps h.1)
     where
       go : (b : Bool) → first_outside steps ≡ refusal_for (first_named names (map value_in steps)) t p
-          → cond b (first_outside steps) (refusal_in s) ≡ refusal_for (cond b (first_named names (map value_in steps)) f) t p
+          → cond b (first_outside steps) (refusal_in s) ≡ refusal_for (cond b (first_named names (map value_in steps)) (Some f)) t p
       go true e = e
       go false e = sym h.0
 
@@ -53,20 +52,15 @@ pub failure-refusal : (w : ℕ → ℕ) (t : Table) (p : ℕ) → first_outside 
 failure-refusal w t p = first-of-both t p (step_names t) (pixel_steps w t p) (paired w t p)
 
 -- ---- a refusal names the table and the pixel that it is of
-table-back : (t : Table) → table_of (table_number t) ≡ t
-table-back Offset = refl
-table-back Alpha = refl
-table-back Kta = refl
-
-named-own : (f : Failure) (t u : Table) (p q : ℕ) (r : Refusal) → refusal_for f t p ≡ r → (r ≡ None → ⊥) → (table_in r u ≡ t) × (pixel_in r q ≡ p)
-named-own Nothing t u p q r e some = absurd (some (sym e))
-named-own Row t u p q r e some = rw (← e) (table-back t, refl)
-named-own Column t u p q r e some = rw (← e) (table-back t, refl)
-named-own Remainder t u p q r e some = rw (← e) (table-back t, refl)
-named-own Sum t u p q r e some = rw (← e) (table-back t, refl)
+named-own : (f : Option Failure) (t u : Table) (p q : ℕ) (r : Verdict) → refusal_for f t p ≡ r → (r ≡ accepted → ⊥) → (table_in r u ≡ t) × (pixel_in r q ≡ p)
+named-own None t u p q r e some = absurd (some (sym e))
+named-own (Some Row) t u p q r e some = rw (← e) (refl, refl)
+named-own (Some Column) t u p q r e some = rw (← e) (refl, refl)
+named-own (Some Remainder) t u p q r e some = rw (← e) (refl, refl)
+named-own (Some Sum) t u p q r e some = rw (← e) (refl, refl)
 
 -- the first refusal of two
-first-or : {X : Type 0} (a b r : Refusal) → or_else a b ≡ r → (a ≡ r → X) → (b ≡ r → X) → X
+first-or : {X : Type 0} (a b r : Verdict) → or_else a b ≡ r → (a ≡ r → X) → (b ≡ r → X) → X
 first-or {X} a b r e f g = go (accepted_by a) refl
   where
     go : (k : Bool) → accepted_by a ≡ k → X
@@ -75,10 +69,10 @@ first-or {X} a b r e f g = go (accepted_by a) refl
 
 -- ---- what the walk finds, where table u and pixel q are asked for
 module _ (w : ℕ → ℕ) (u : Table) (q : ℕ) (in-range : q < 768) where
-  abbrev At : Refusal → Type 0
+  abbrev At : Verdict → Type 0
   At r = (pixel_in r q < 768) × (first_outside (pixel_steps w (table_in r u) (pixel_in r q)) ≡ r)
 
-  at_table : (t : Table) (r : Refusal) → (r ≡ None → ⊥) → first_outside (table_steps w t) ≡ r → At r
+  at_table : (t : Table) (r : Verdict) → (r ≡ accepted → ⊥) → first_outside (table_steps w t) ≡ r → At r
   unfolding table_steps
   at_table t r some e =
       let f = found-pixel (pixel_steps w t) 768 0 r e some in
@@ -86,24 +80,24 @@ module _ (w : ℕ → ℕ) (u : Table) (q : ℕ) (in-range : q < 768) where
       let own = named-own (failure_in w t f.0) t u f.0 q r (sym (failure-refusal w t f.0) ∙ at) some in
       (rw own.1 f.1, rw (own.0, own.1) at)
 
-  pub found_at : (r : Refusal) → first_outside (walk w) ≡ r → At r
+  pub found_at : (r : Verdict) → first_outside (walk w) ≡ r → At r
   found_at r e = go (accepted_by r) refl
     where
-      o : Refusal
+      o : Verdict
       o = first_outside (table_steps w Offset)
 
-      a : Refusal
+      a : Verdict
       a = first_outside (table_steps w Alpha)
 
-      k : Refusal
+      k : Verdict
       k = first_outside (table_steps w Kta)
 
       go : (b : Bool) → accepted_by r ≡ b → At r
       go true h =
-          let none : r ≡ None = accepted-none r h in
+          let none : r ≡ accepted = accepted-none r h in
           subst At (sym none) (in-range, walk-calm w (e ∙ none) u q in-range)
       go false h =
-          let some : r ≡ None → ⊥ = λ n. let y : ◌≡◌ {A = Bool} true false = sym (ap accepted_by n) ∙ h in let z : ◌≡◌ {A = ℕ} 0 1 = cc in omega arith in
+          let some : r ≡ accepted → ⊥ = λ n. let y : ◌≡◌ {A = Bool} true false = sym (ap accepted_by n) ∙ h in let z : ◌≡◌ {A = ℕ} 0 1 = cc in omega arith in
           first-or o (or_else a k) r (sym (walk-order w) ∙ e) (at_table Offset r some) (λ d. first-or a k r d (at_table Alpha r some) (at_table Kta r some))
 
   -- the pixel that is explained, and that its failure is what the decoder refuses

@@ -7,6 +7,7 @@ use native.Mathlib.Nat.{mul-one, add-zero}
 use native.Mathlib.Omega.{arith}
 use borrow.Author.Tests.{lt-ltb}
 use lib.IntN.{ℤ, pos, negsuc, neg_ℤ, ◌+ℤ◌}
+use Rattle.std.specs.Prelude.{Some}
 use Rattle.exact.specs.Dyadic.{dyadic}
 use Rattle.refusal.specs.declared.Table.{Table}
 use Rattle.refusal.specs.declared.Table.TheVariants.{Offset, Alpha, Kta}
@@ -80,7 +81,7 @@ module _ (w : ℕ → ℕ) (p : ℕ) where
   kta-adds-up = sym (λ i. Fraction (dyadic (kta-terms.numerator_is i) (exponent_in w Kta)))
 
   -- ---- the walk's steps of a pixel are its named numbers, one for one
-  pub steps-named : (t : Table) → map value_in (pixel_steps w t p) ≡ map (λ (f : Failure). number_of f (parts_in w t p)) (step_names t)
+  pub steps-named : (t : Table) → map value_in (pixel_steps w t p) ≡ map (λ (f : Failure). number_of (Some f) (parts_in w t p)) (step_names t)
   unfolding pixel_steps term_steps shared_parts kta_parts
   steps-named Offset = rw (shared-terms w 0x10 10 p).numerator_is
   steps-named Alpha = refl

@@ -1,12 +1,13 @@
 -- The explanation of a number: what its entry is made of, field by field, with each running sum; and, of an image that the decoder refuses, the same of the pixel that the
 -- decoder names, up to the number that it refuses. The fields' places are those of the scope's "The image"; proofs/Terms.antt shows that the terms are the walk's.
 -- Assumes nothing.
-use Rattle.std.specs.Prelude.{ℕ, ◌+◌, ◌-◌, ◌*◌, ◌/◌, ◌%◌, cond, List, [], ◌∷◌, map, leb, ltb, eqb, ℤ, pos, ◌+ℤ◌, length}
-use Rattle.refusal.specs.Code.{code_of, accepted_by, or_else}
+use Rattle.std.specs.Prelude.{ℕ, ◌+◌, ◌-◌, ◌*◌, ◌/◌, ◌%◌, cond, List, [], ◌∷◌, map, leb, ℤ, pos, ◌+ℤ◌, length, Option, None, Some, Result, Ok, Err}
+use Rattle.std.specs.Result.{result_and}
+use Rattle.refusal.specs.Code.{table_from, code_of, accepted_by, or_else, Verdict, accepted, verdict_of}
 use Rattle.refusal.specs.declared.Table.{Table}
 use Rattle.refusal.specs.declared.Table.TheVariants.{Offset, Alpha, Kta}
 use Rattle.refusal.specs.declared.Refusal.{Refusal}
-use Rattle.refusal.specs.declared.Refusal.TheVariants.{None, TermOutside, SumOutside, TableNumber}
+use Rattle.refusal.specs.declared.Refusal.TheVariants.{TermOutside, SumOutside}
 use Rattle.util.specs.Words.{field, signed_field}
 use Rattle.util.specs.Sums.{in16, term_of}
 use Rattle.util.specs.Pixels.{row, column, chessboard}
@@ -18,9 +19,9 @@ use Rattle.pixel.specs.Answer.{tests_of}
 use Rattle.explanation.specs.declared.Part.{Part}
 use Rattle.explanation.specs.declared.Parts.{Parts}
 use Rattle.explanation.specs.declared.Failure.{Failure}
-use Rattle.explanation.specs.declared.Failure.TheVariants.{Nothing, Row, Column, Remainder, Sum}
+use Rattle.explanation.specs.declared.Failure.TheVariants.{Row, Column, Remainder, Sum}
 use Rattle.explanation.specs.declared.Entry.{Entry}
-use Rattle.explanation.specs.declared.Entry.TheVariants.{Absent, Whole, Fraction}
+use Rattle.explanation.specs.declared.Entry.TheVariants.{Whole, Fraction}
 use Rattle.explanation.specs.declared.Explanation.{Explanation}
 
 -- ---- a field: width bits of word n from bit low up, and what they come to at a scale
@@ -91,48 +92,48 @@ step_names Offset = Row ∷ Column ∷ Remainder ∷ Sum ∷ []
 step_names Alpha = Row ∷ Column ∷ Remainder ∷ []
 step_names Kta = Remainder ∷ Sum ∷ []
 
-unfoldable pub first_named : List Failure → List ℤ → Failure
-first_named [] values = Nothing
-first_named (name ∷ names) [] = Nothing
-first_named (name ∷ names) (z ∷ values) = cond (in16 z) (first_named names values) name
+unfoldable pub first_named : List Failure → List ℤ → Option Failure
+first_named [] values = None
+first_named (name ∷ names) [] = None
+first_named (name ∷ names) (z ∷ values) = cond (in16 z) (first_named names values) (Some name)
 
-abbrev pub failure_in : (ℕ → ℕ) → Table → ℕ → Failure
+abbrev pub failure_in : (ℕ → ℕ) → Table → ℕ → Option Failure
 failure_in w t p = first_named (step_names t) (map value_in (pixel_steps w t p))
 
 -- the refusal that a failure is, of pixel p of table t; the number that it is about, and the part
-abbrev pub refusal_for : Failure → Table → ℕ → Refusal
-refusal_for Nothing t p = None
-refusal_for Row t p = TermOutside t p
-refusal_for Column t p = TermOutside t p
-refusal_for Remainder t p = TermOutside t p
-refusal_for Sum t p = SumOutside t p
+abbrev pub refusal_for : Option Failure → Table → ℕ → Verdict
+refusal_for None t p = accepted
+refusal_for (Some Row) t p = Err (TermOutside t p)
+refusal_for (Some Column) t p = Err (TermOutside t p)
+refusal_for (Some Remainder) t p = Err (TermOutside t p)
+refusal_for (Some Sum) t p = Err (SumOutside t p)
 
-abbrev pub part_of : Failure → Parts → Part
-part_of Nothing x = blank_part
-part_of Row x = x.row
-part_of Column x = x.column
-part_of Remainder x = x.remainder
-part_of Sum x = blank_part
+abbrev pub part_of : Option Failure → Parts → Part
+part_of None x = blank_part
+part_of (Some Row) x = x.row
+part_of (Some Column) x = x.column
+part_of (Some Remainder) x = x.remainder
+part_of (Some Sum) x = blank_part
 
-abbrev pub number_of : Failure → Parts → ℤ
-number_of Nothing x = pos 0
-number_of Row x = x.row.term
-number_of Column x = x.column.term
-number_of Remainder x = x.remainder.term
-number_of Sum x = x.numerator
+abbrev pub number_of : Option Failure → Parts → ℤ
+number_of None x = pos 0
+number_of (Some Row) x = x.row.term
+number_of (Some Column) x = x.column.term
+number_of (Some Remainder) x = x.remainder.term
+number_of (Some Sum) x = x.numerator
 
 -- ---- the numbers up to there: how far the walk comes, and what is kept of the parts
-abbrev pub reached : Failure → ℕ
-reached Row = 0
-reached Column = 1
-reached Remainder = 2
-reached Sum = 3
-reached Nothing = 4
+abbrev pub reached : Option Failure → ℕ
+reached (Some Row) = 0
+reached (Some Column) = 1
+reached (Some Remainder) = 2
+reached (Some Sum) = 3
+reached None = 4
 
-abbrev pub up_to : {A : Type 0} → ℕ → Failure → A → A → A
+abbrev pub up_to : {A : Type 0} → ℕ → Option Failure → A → A → A
 up_to k f x blank = cond (leb k (reached f)) x blank
 
-unfoldable pub cut_parts : Failure → Parts → Parts
+unfoldable pub cut_parts : Option Failure → Parts → Parts
 cut_parts f x = record {
   average = x.average;
   row = x.row;
@@ -144,50 +145,41 @@ cut_parts f x = record {
 }
 
 -- pixel p of table t, where the decoder answers r
-abbrev pub described : Refusal → (ℕ → ℕ) → Table → ℕ → Explanation
+abbrev pub described : Verdict → (ℕ → ℕ) → Table → ℕ → Explanation
 described r w t p = record {
-  refusal = None;
   found = r;
   table = t;
   pixel = p;
   failure = failure_in w t p;
   parts = cut_parts (failure_in w t p) (parts_in w t p);
   exponent = up_to 4 (failure_in w t p) (exponent_in w t) 0;
-  entry = up_to 4 (failure_in w t p) (entry_in w t p) Absent;
+  entry = up_to 4 (failure_in w t p) (Some (entry_in w t p)) None;
 }
 
--- ---- the answer: of the table and the pixel that were asked for or, where the decoder refuses, of those that it names
-abbrev pub table_of : ℕ → Table
-table_of n = cond (eqb n 0) Offset (cond (eqb n 1) Alpha Kta)
+-- ---- the answer: of the table and the pixel that were asked for or, where the decoder refuses, of those that it names. It refuses terms and sums alone: the last line is of no image
+abbrev pub table_in : Verdict → Table → Table
+table_in (Ok done) asked = asked
+table_in (Err (TermOutside t pixel)) asked = t
+table_in (Err (SumOutside t pixel)) asked = t
+table_in (Err r) asked = Offset
 
-abbrev pub table_in : Refusal → Table → Table
-table_in r asked = cond (accepted_by r) asked (table_of (code_of r).table)
-
-abbrev pub pixel_in : Refusal → ℕ → ℕ
+abbrev pub pixel_in : Verdict → ℕ → ℕ
 pixel_in r asked = cond (accepted_by r) asked (code_of r).place
 
 abbrev pub explained : (ℕ → ℕ) → Table → ℕ → Explanation
 explained w t p = described (first_outside (walk w)) w (table_in (first_outside (walk w)) t) (pixel_in (first_outside (walk w)) p)
 
 -- 15 for a table's number above 2; and the order of the refusals: 1, 11, 15
-abbrev pub table_refusal : ℕ → Refusal
-table_refusal n = cond (ltb 2 n) TableNumber None
+abbrev pub table_refusal : ℕ → Verdict
+table_refusal n = verdict_of (table_from n)
 
-abbrev pub explain_refusal : List ℕ → ℕ → ℕ → Refusal
+abbrev pub explain_refusal : List ℕ → ℕ → ℕ → Verdict
 explain_refusal image n p = or_else (tests_of (length image) p) (table_refusal n)
 
--- a refused call's answer: blank throughout
-abbrev pub refused_with : Refusal → Explanation
-refused_with r = record {
-  refusal = r;
-  found = None;
-  table = Offset;
-  pixel = 0;
-  failure = Nothing;
-  parts = summed blank_part blank_part blank_part blank_part;
-  exponent = 0;
-  entry = Absent;
-}
+-- pixel p of the table with a number, where there is one
+abbrev pub explained_in : (ℕ → ℕ) → Result Table Refusal → ℕ → Result Explanation Refusal
+explained_in w (Ok t) p = Ok (explained w t p)
+explained_in w (Err r) p = Err r
 
-unfoldable pub explanation_of : List ℕ → ℕ → ℕ → Explanation
-explanation_of image n p = cond (accepted_by (explain_refusal image n p)) (explained (image_words image) (table_of n) p) (refused_with (explain_refusal image n p))
+unfoldable pub explanation_of : List ℕ → ℕ → ℕ → Result Explanation Refusal
+explanation_of image n p = result_and (tests_of (length image) p) (explained_in (image_words image) (table_from n) p)

@@ -1,9 +1,7 @@
 // What fails in a pixel, and the numbers up to there: what comes after a failure is blank.
-ghost use Rattle.std.specs.Prelude.{◌≡◌, true, [], ◌∷◌, ◌^◌, ◌<◌, pos, nat_abs};
+ghost use Rattle.std.specs.Prelude.{◌≡◌, true, [], ◌∷◌, ◌^◌, ◌<◌, pos, nat_abs, None, Some};
 ghost use Rattle.util.specs.Sums.{in16};
 ghost use Rattle.refusal.specs.declared.Table.TheVariants as table-variants;
-ghost use Rattle.explanation.specs.declared.Entry.TheVariants.{Absent};
-ghost use Rattle.explanation.specs.declared.Failure.TheVariants as names;
 ghost use Rattle.explanation.specs.Explanation.{blank_part, step_names, first_named, reached, up_to, cut_parts};
 ghost use Rattle.explanation.specs.Inner.From.{tested_sum, failure_from, entry_from};
 
@@ -14,22 +12,23 @@ use refusal::Table;
 use util::outside;
 
 // The name of the first of four numbers that 16 bits don't hold.
-fn first_failure(row: i32, column: i32, remainder: i32, sum: i32) -> Failure
+#[tactic(auto, unfolding(crate::specs::Explanation::first_named))]
+fn first_failure(row: i32, column: i32, remainder: i32, sum: i32) -> Option<Failure>
     ensures { result ≡ first_named (step_names table-variants.Offset) (row ∷ column ∷ remainder ∷ sum ∷ []) }
 {
     if outside(row) {
-        return Failure::Row;
+        return Some(Failure::Row);
     }
     if outside(column) {
-        return Failure::Column;
+        return Some(Failure::Column);
     }
     if outside(remainder) {
-        return Failure::Remainder;
+        return Some(Failure::Remainder);
     }
     if outside(sum) {
-        return Failure::Sum;
+        return Some(Failure::Sum);
     }
-    Failure::Nothing
+    None
 }
 
 // The sum that a table's walk tests: alpha has none.
@@ -37,14 +36,13 @@ fn tested_sum(table: Table, sum: i32) -> i32
     ensures { result ≡ tested_sum table sum }
 {
     match table {
-        Table::Offset => sum,
+        Table::Offset | Table::Kta => sum,
         Table::Alpha => 0,
-        Table::Kta => sum,
     }
 }
 
 // What fails in a table with these parts.
-pub(crate) fn failure_of(table: Table, parts: Parts) -> Failure
+pub(crate) fn failure_of(table: Table, parts: Parts) -> Option<Failure>
     ensures { result ≡ failure_from table parts }
 {
     first_failure(
@@ -56,20 +54,20 @@ pub(crate) fn failure_of(table: Table, parts: Parts) -> Failure
 }
 
 // How many of a pixel's four numbers are inside before the failure.
-pub fn reached_by(failure: Failure) -> u32
+pub fn reached_by(failure: Option<Failure>) -> u32
     ensures { result ≡ reached failure }
 {
     match failure {
-        Failure::Row => 0,
-        Failure::Column => 1,
-        Failure::Remainder => 2,
-        Failure::Sum => 3,
-        Failure::Nothing => 4,
+        Some(Failure::Row) => 0,
+        Some(Failure::Column) => 1,
+        Some(Failure::Remainder) => 2,
+        Some(Failure::Sum) => 3,
+        None => 4,
     }
 }
 
 // A part, where so many numbers are inside.
-fn part_up_to(k: u32, failure: Failure, part: Part) -> Part
+fn part_up_to(k: u32, failure: Option<Failure>, part: Part) -> Part
     ensures { result ≡ up_to k failure part blank_part }
 {
     if k <= reached_by(failure) {
@@ -80,14 +78,14 @@ fn part_up_to(k: u32, failure: Failure, part: Part) -> Part
 }
 
 // A number, where so many are inside.
-fn number_up_to(k: u32, failure: Failure, z: i32) -> i32
+fn number_up_to(k: u32, failure: Option<Failure>, z: i32) -> i32
     ensures { result ≡ up_to k failure z (pos 0) }
 {
     if k <= reached_by(failure) { z } else { 0 }
 }
 
 // The exponent, where nothing fails.
-pub(crate) fn exponent_up_to(failure: Failure, exponent: u16) -> u8
+pub(crate) fn exponent_up_to(failure: Option<Failure>, exponent: u16) -> u8
     requires { exponent < 50 }
     ensures { result ≡ up_to 4 failure exponent 0 }
 {
@@ -99,44 +97,43 @@ pub(crate) fn exponent_up_to(failure: Failure, exponent: u16) -> u8
 }
 
 // The parts up to the failure.
-pub(crate) fn cut_parts(failure: Failure, parts: Parts) -> Parts
+pub(crate) fn cut_parts(failure: Option<Failure>, parts: Parts) -> Parts
     ensures { result ≡ cut_parts failure parts }
 {
-    let average = parts.average;
-    let row = parts.row;
     Parts {
-        average,
-        row,
         after_row: number_up_to(1, failure, parts.after_row),
         column: part_up_to(1, failure, parts.column),
         after_column: number_up_to(2, failure, parts.after_column),
         remainder: part_up_to(2, failure, parts.remainder),
         numerator: number_up_to(3, failure, parts.numerator),
+        ..parts
     }
 }
 
 // The entry that a table has for a numerator over a power of two.
+#[tactic(auto, unfolding(util::specs::Sums::in16))]
 fn entry_of(table: Table, numerator: i32, exponent: u16) -> Entry
     requires { (nat_abs numerator < 2 ^ 24) × (exponent < 50) × (in16 (tested_sum table numerator) ≡ true) }
     ensures { result ≡ entry_from table numerator exponent }
 {
     match table {
         Table::Offset => Entry::Whole(numerator as i16),
-        Table::Alpha => Entry::Fraction(over_power(numerator, exponent as usize)),
-        Table::Kta => Entry::Fraction(over_power(numerator, exponent as usize)),
+        Table::Alpha | Table::Kta => Entry::Fraction(over_power(numerator, exponent as usize)),
     }
 }
 
 // The entry, where nothing fails.
-pub(crate) fn entry_up_to(failure: Failure, table: Table, numerator: i32, exponent: u16) -> Entry
-    requires { (nat_abs numerator < 2 ^ 24) × (exponent < 50) × (failure ≡ names.Nothing → in16 (tested_sum table numerator) ≡ true) }
-    ensures { result ≡ up_to 4 failure (entry_from table numerator exponent) Absent }
+pub(crate) fn entry_up_to(
+    failure: Option<Failure>,
+    table: Table,
+    numerator: i32,
+    exponent: u16,
+) -> Option<Entry>
+    requires { (nat_abs numerator < 2 ^ 24) × (exponent < 50) × (failure ≡ None → in16 (tested_sum table numerator) ≡ true) }
+    ensures { result ≡ up_to 4 failure (Some (entry_from table numerator exponent)) None }
 {
     match failure {
-        Failure::Nothing => entry_of(table, numerator, exponent),
-        Failure::Row => Entry::Absent,
-        Failure::Column => Entry::Absent,
-        Failure::Remainder => Entry::Absent,
-        Failure::Sum => Entry::Absent,
+        None => Some(entry_of(table, numerator, exponent)),
+        Some(_) => None,
     }
 }

@@ -47,7 +47,7 @@ pub(crate) fn blank_part() -> Part
 }
 
 // The parts with their running sums.
-pub(crate) fn sum_up(average: Part, row: Part, column: Part, remainder: Part) -> Parts
+fn sum_up(average: Part, row: Part, column: Part, remainder: Part) -> Parts
     requires { (nat_abs average.term ≤ 0x8000) × (nat_abs row.term ≤ 0x40000) × (nat_abs column.term ≤ 0x40000) × (nat_abs remainder.term ≤ 0x100000) }
     ensures value { result ≡ summed average row column remainder }
     ensures numerator_bound { nat_abs result.numerator < 2 ^ 24 }
@@ -67,6 +67,7 @@ pub(crate) fn sum_up(average: Part, row: Part, column: Part, remainder: Part) ->
 }
 
 // The parts of pixel p in the table whose words start at base; the remainder starts at bit low of the pixel's own word.
+#[tactic(auto, unfolding(crate::specs::Explanation::shared_parts))]
 fn shared_parts(words: &[u16; 832], base: usize, low: u32, p: usize) -> Parts
     requires { (base ≤ 32) × (low ≤ 10) × (p < 768) }
     ensures value { result ≡ shared_parts (listed words.now) base low p }
@@ -98,6 +99,7 @@ fn shared_parts(words: &[u16; 832], base: usize, low: u32, p: usize) -> Parts
 }
 
 // The parts of pixel p in Kta.
+#[tactic(auto, unfolding(crate::specs::Explanation::kta_parts))]
 fn k_ta_parts(words: &[u16; 832], p: usize) -> Parts
     requires { p < 768 }
     ensures value { result ≡ kta_parts (listed words.now) p }

@@ -2,14 +2,15 @@
 -- Assumes nothing.
 use Prim.Native.Nat.{ℕ, ◌<◌}
 use mathlib.Core.Path.{◌≡◌, refl, sym, ap, ◌∙◌}
-use mathlib.Core.Bool.{Bool, true, false, ◌&&◌}
+use mathlib.Core.Bool.{Bool, ◌&&◌}
 use mathlib.Core.List.{List, map}
 use native.Mathlib.Omega.{arith}
 use borrow.Author.Tests.{lt-ltb}
 use lib.Dec.{eqb}
 use lib.ListN.{length, get_or}
-use Rattle.refusal.specs.Code.{accepted_by, or_else}
-use Rattle.refusal.specs.declared.Refusal.{Refusal}
+use Rattle.std.specs.Result.{result_and}
+use Rattle.refusal.specs.Code.{or_else, Verdict}
+use Rattle.refusal.proofs.Order.{granted-behind}
 use Rattle.util.specs.Words.{listed}
 use Rattle.util.specs.Bytes.{bytes_of}
 use Rattle.util.specs.Lists.{tab, lowest}
@@ -23,7 +24,6 @@ use Rattle.pixel.specs.Inner.Places.{Rising, Below}
 use Rattle.pixel.proofs.Rising.{first-lowest, none-lowest}
 use Rattle.pixel.proofs.Chosen.{chosen}
 use Rattle.pixel.proofs.Sameness.{needed-words, from-needed, needed-rise, needed-below}
-use Rattle.pixel.proofs.Exactly.{refused-answer}
 use Rattle.gathering.specs.Cells.{cell_of, mark_of}
 use Rattle.gathering.specs.State.{fault_from}
 use Rattle.gathering.specs.Decoding.{gathered_words}
@@ -77,11 +77,7 @@ module _ (g : Gathering) (p : ℕ) (h : p < 768) where
   values-are = ap (λ (l : List ℕ). answer_from l p) (chosen (listed g.values) words ∙ sym stored-words) ∙ from-needed (gathered_words g) p
 
   pub stored-cells : cells_answer (at_places g.values words) (at_places g.marks words) p ≡ answered (or_else (fault_among g words) (pixel_fault (gathered_words g) p)) (gathered_words g) p
-  stored-cells = ap (λ (r : Refusal). cells_told r (at_places g.values words) p) fault-is ∙ go (accepted_by (fault_among g words)) refl
-    where
-      w : ℕ → ℕ
-      w = gathered_words g
-
-      go : (b : Bool) → accepted_by (fault_among g words) ≡ b → cells_told (fault_among g words) (at_places g.values words) p ≡ answered (or_else (fault_among g words) (pixel_fault w p)) w p
-      go true e = rw e values-are
-      go false e = rw e (refused-answer w p refl e)
+  unfolding answered
+  stored-cells =
+      ap (λ (r : Verdict). cells_told r (at_places g.values words) p) fault-is
+      ∙ (ap (result_and (fault_among g words)) values-are ∙ sym (granted-behind (fault_among g words) (pixel_fault (gathered_words g) p) _))

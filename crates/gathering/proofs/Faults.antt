@@ -9,8 +9,10 @@ use native.Mathlib.Nat.{not-suc-le-zero, le_of_suc-le-suc}
 use native.Mathlib.Omega.{arith}
 use borrow.Author.Tests.{lt-ltb}
 use lib.Dec.{ltb}
+use Rattle.std.specs.Prelude.{Result, Err, IsOkAnd}
 use Rattle.refusal.specs.declared.Refusal.{Refusal}
-use Rattle.refusal.specs.declared.Refusal.TheVariants.{None, WordInConflict, WordMissing}
+use Rattle.refusal.specs.Code.{Verdict, accepted}
+use Rattle.refusal.specs.declared.Refusal.TheVariants.{WordInConflict, WordMissing}
 use Rattle.gathering.specs.Cells.{missing, conflict, is_missing, is_in_conflict}
 use Rattle.util.specs.Lists.{lowest}
 use Rattle.gathering.specs.State.{cell_at, word_of, fault_from, fault_of}
@@ -60,14 +62,14 @@ module _ (C M : ℕ → Type 0) (p q : ℕ → Bool) (c : (w : ℕ) → w < 832 
   is-lowest : (P : ℕ → Type 0) (t : ℕ → Bool) (x : (w : ℕ) → w < 832 → (t w ≡ true) ↔ P w) (w : ℕ) → w < 832 → t w ≡ true → ((k : ℕ) → k < w → t k ≡ false) → Lowest P w
   is-lowest P t x w l e f = record { below = l; has = (x w l).0 e; least = λ k h. none_of P t x w f k h (omega arith) }
 
-  abbrev fault : Refusal
+  abbrev fault : Verdict
   fault = fault_from (lowest 832 p) (lowest 832 q)
 
-  named : (w : ℕ) → w < 832 → lowest 832 p ≡ w → fault ≡ WordInConflict w
-  named w l e = ap (λ (k : ℕ). fault_from k (lowest 832 q)) e ∙ ap (λ (t : Bool). cond t (WordInConflict w) (cond (ltb (lowest 832 q) 832) (WordMissing (lowest 832 q)) None)) (lt-ltb w 832 l)
+  named : (w : ℕ) → w < 832 → lowest 832 p ≡ w → fault ≡ Err (WordInConflict w)
+  named w l e = ap (λ (k : ℕ). fault_from k (lowest 832 q)) e ∙ ap (λ (t : Bool). cond t (Err (WordInConflict w)) (cond (ltb (lowest 832 q) 832) (Err (WordMissing (lowest 832 q))) accepted)) (lt-ltb w 832 l)
 
-  lacked : (w : ℕ) → w < 832 → lowest 832 p ≡ 832 → lowest 832 q ≡ w → fault ≡ WordMissing w
-  lacked w l d e = ap₂ fault_from d e ∙ ap (λ (t : Bool). cond t (WordMissing w) None) (lt-ltb w 832 l)
+  lacked : (w : ℕ) → w < 832 → lowest 832 p ≡ 832 → lowest 832 q ≡ w → fault ≡ Err (WordMissing w)
+  lacked w l d e = ap₂ fault_from d e ∙ ap (λ (t : Bool). cond t (Err (WordMissing w)) accepted) (lt-ltb w 832 l)
 
   pub faults : Faults C M fault
   faults = record {
@@ -76,12 +78,12 @@ module _ (C M : ℕ → Type 0) (p q : ℕ → Bool) (c : (w : ℕ) → w < 832 
     neither = (λ e. none-to (search-ends 832 p) (search-ends 832 q) e, λ a. ap₂ fault_from (no-lowest C p c a.0) (no-lowest M q m a.1));
   }
     where
-      nine-to : (w : ℕ) → Search 832 p → Search 832 q → fault ≡ WordInConflict w → Lowest C w
+      nine-to : (w : ℕ) → Search 832 p → Search 832 q → fault ≡ Err (WordInConflict w) → Lowest C w
       nine-to w (found u l h f d) s e = let g = named u l d in let same : u ≡ w = cc in subst (Lowest C) same (is-lowest C p c u l h f)
       nine-to w (nowhere f d) (found u l h g k) e = let g = lacked u l d k in absurd (let z : ◌≡◌ {A = ℕ} 0 1 = cc in omega arith)
       nine-to w (nowhere f d) (nowhere g k) e = let g = ap₂ fault_from d k in absurd (let z : ◌≡◌ {A = ℕ} 0 1 = cc in omega arith)
 
-      ten-to : (w : ℕ) → Search 832 p → Search 832 q → fault ≡ WordMissing w → NoWord C × Lowest M w
+      ten-to : (w : ℕ) → Search 832 p → Search 832 q → fault ≡ Err (WordMissing w) → NoWord C × Lowest M w
       ten-to w (found u l h f d) s e = let g = named u l d in absurd (let z : ◌≡◌ {A = ℕ} 0 1 = cc in omega arith)
       ten-to w (nowhere f d) (found u l h g k) e =
           let r = lacked u l d k in
@@ -89,7 +91,7 @@ module _ (C M : ℕ → Type 0) (p q : ℕ → Bool) (c : (w : ℕ) → w < 832 
           (λ i b. none_of C p c 832 f i b b, subst (Lowest M) same (is-lowest M q m u l h g))
       ten-to w (nowhere f d) (nowhere g k) e = let r = ap₂ fault_from d k in absurd (let z : ◌≡◌ {A = ℕ} 0 1 = cc in omega arith)
 
-      none-to : Search 832 p → Search 832 q → fault ≡ None → NoWord C × NoWord M
+      none-to : Search 832 p → Search 832 q → fault ≡ accepted → NoWord C × NoWord M
       none-to (found u l h f d) s e = let g = named u l d in absurd (let z : ◌≡◌ {A = ℕ} 0 1 = cc in omega arith)
       none-to (nowhere f d) (found u l h g k) e = let r = lacked u l d k in absurd (let z : ◌≡◌ {A = ℕ} 0 1 = cc in omega arith)
       none-to (nowhere f d) (nowhere g k) e = (λ i b. none_of C p c 832 f i b b, λ i b. none_of M q m 832 g i b b)
@@ -108,12 +110,12 @@ fault-in h g s =
     (λ w l. (λ e. subst (Rule h w) (is-missing (cell_at g w) e) (s.rule w l), λ r. ap is_missing (rule-only h w (cell_at g w) missing (s.rule w l) r)))
 
 -- what `fault` ensures of its answer
-pub fault-said : (g : Gathering) (r : Refusal) → r ≡ fault_of g → (r ≡ fault_of g) × (FaultAt g r × ((h : History) → StateOf h g → FaultIn h r))
+pub fault-said : (g : Gathering) (r : Verdict) → r ≡ fault_of g → (r ≡ fault_of g) × (FaultAt g r × ((h : History) → StateOf h g → FaultIn h r))
 fault-said g r e = (e, (subst (FaultAt g) (sym e) (fault-at g), λ h s. subst (FaultIn h) (sym e) (fault-in h g s)))
 
-pub word_in : (h : History) (g : Gathering) → StateOf h g → (w : ℕ) → w < 832 → WordIn h w (word_of g w)
+pub word_in : (h : History) (g : Gathering) → StateOf h g → (w : ℕ) → w < 832 → IsOkAnd (word_of g w) (WordIn h w)
 word_in h g s w l = rw (lt-ltb w 832 l) (record { cell = cell_at g w; rule = s.rule w l; mark = refl; value = refl })
 
 -- and `word` of its own
-pub word-said : (g : Gathering) (w : ℕ) (a : Word) → a ≡ word_of g w → (a ≡ word_of g w) × ((h : History) → StateOf h g → w < 832 → WordIn h w a)
-word-said g w a e = (e, λ h s l. subst (WordIn h w) (sym e) (word_in h g s w l))
+pub word-said : (g : Gathering) (w : ℕ) (a : Result Word Refusal) → a ≡ word_of g w → (a ≡ word_of g w) × ((h : History) → StateOf h g → w < 832 → IsOkAnd a (WordIn h w))
+word-said g w a e = (e, λ h s l. subst (λ (a : Result Word Refusal). IsOkAnd a (WordIn h w)) (sym e) (word_in h g s w l))

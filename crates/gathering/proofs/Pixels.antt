@@ -10,9 +10,9 @@ use mathlib.Core.List.{List, map}
 use native.Mathlib.Omega.{arith}
 use borrow.Author.Tests.{lt-ltb}
 use lib.ListN.{length, get_or}
-use Rattle.refusal.specs.Code.{or_else}
-use Rattle.refusal.specs.declared.Refusal.{Refusal}
-use Rattle.refusal.specs.declared.Refusal.TheVariants.{None, WordInConflict, WordMissing}
+use Rattle.std.specs.Prelude.{Err}
+use Rattle.refusal.specs.Code.{or_else, Verdict, accepted}
+use Rattle.refusal.specs.declared.Refusal.TheVariants.{WordInConflict, WordMissing}
 use Rattle.util.specs.Words.{word_at, listed}
 use Rattle.util.proofs.Lists.{lowest-none}
 use Rattle.steps.specs.Steps.{Step, term, sum, refusal_in}
@@ -64,23 +64,23 @@ needed-in h g s p =
 past-fault : (g : Gathering) (p : ℕ) → p < 768 → gathered_pixel_refusal g p ≡ or_else (fault_among g (needed_by p)) (pixel_fault (gathered_words g) p)
 past-fault g p h = rw (lt-ltb p 768 h)
 
-no-conflict : (w : ℕ) (s : Step) → refusal_in s ≡ WordInConflict w → ⊥
+no-conflict : (w : ℕ) (s : Step) → refusal_in s ≡ Err (WordInConflict w) → ⊥
 no-conflict w (term t q z) e = let z : ◌≡◌ {A = ℕ} 0 1 = cc in omega arith
 no-conflict w (sum t q z) e = let z : ◌≡◌ {A = ℕ} 0 1 = cc in omega arith
 
-no-missing : (w : ℕ) (s : Step) → refusal_in s ≡ WordMissing w → ⊥
+no-missing : (w : ℕ) (s : Step) → refusal_in s ≡ Err (WordMissing w) → ⊥
 no-missing w (term t q z) e = let z : ◌≡◌ {A = ℕ} 0 1 = cc in omega arith
 no-missing w (sum t q z) e = let z : ◌≡◌ {A = ℕ} 0 1 = cc in omega arith
 
 module _ (g : Gathering) (p : ℕ) (h : p < 768) where
-  answers : (r : Refusal) → (r ≡ None → ⊥) → ((s : Step) → refusal_in s ≡ r → ⊥) → (gathered_pixel_refusal g p ≡ r) ↔ (fault_among g (needed_by p) ≡ r)
+  answers : (r : Verdict) → (r ≡ accepted → ⊥) → ((s : Step) → refusal_in s ≡ r → ⊥) → (gathered_pixel_refusal g p ≡ r) ↔ (fault_among g (needed_by p) ≡ r)
   answers r some never = rw (past-fault g p h) (test-behind (fault_among g (needed_by p)) (pixel_walk (gathered_words g) p) r some never)
 
-  pub pixel-9 : (w : ℕ) → (gathered_pixel_refusal g p ≡ WordInConflict w) ↔ Lowest (Needs p (λ w. cell_at g w ≡ conflict)) w
-  pixel-9 w = Iff.trans (answers (WordInConflict w) (λ e. let z : ◌≡◌ {A = ℕ} 0 1 = cc in omega arith) (no-conflict w)) ((needed-at g p).nine w)
+  pub pixel-9 : (w : ℕ) → (gathered_pixel_refusal g p ≡ Err (WordInConflict w)) ↔ Lowest (Needs p (λ w. cell_at g w ≡ conflict)) w
+  pixel-9 w = Iff.trans (answers (Err (WordInConflict w)) (λ e. let z : ◌≡◌ {A = ℕ} 0 1 = cc in omega arith) (no-conflict w)) ((needed-at g p).nine w)
 
-  pub pixel-10 : (w : ℕ) → (gathered_pixel_refusal g p ≡ WordMissing w) ↔ (NoWord (Needs p (λ w. cell_at g w ≡ conflict)) × Lowest (Needs p (λ w. cell_at g w ≡ missing)) w)
-  pixel-10 w = Iff.trans (answers (WordMissing w) (λ e. let z : ◌≡◌ {A = ℕ} 0 1 = cc in omega arith) (no-missing w)) ((needed-at g p).ten w)
+  pub pixel-10 : (w : ℕ) → (gathered_pixel_refusal g p ≡ Err (WordMissing w)) ↔ (NoWord (Needs p (λ w. cell_at g w ≡ conflict)) × Lowest (Needs p (λ w. cell_at g w ≡ missing)) w)
+  pixel-10 w = Iff.trans (answers (Err (WordMissing w)) (λ e. let z : ◌≡◌ {A = ℕ} 0 1 = cc in omega arith) (no-missing w)) ((needed-at g p).ten w)
 
 -- ---- once blocks of one image have brought the words that it needs, a pixel is answered as of that image
 module _ (image : List ℕ) (h : History) (g : Gathering) (s : StateOf h g) (from : From image h) (p : ℕ) (pixel : p < 768)
@@ -103,7 +103,7 @@ module _ (image : List ℕ) (h : History) (g : Gathering) (s : StateOf h g) (fro
       go true e = ap t (came_held n e) ∙ never (word_at image n)
       go false e = refl
 
-  pub faultless : fault_among g (needed_by p) ≡ None
+  pub faultless : fault_among g (needed_by p) ≡ accepted
   faultless =
       ap₂ fault_from
       (lowest-none 832 (λ w. needs p w && is_in_conflict (cell_at g w)) (λ w _. untouched is_in_conflict (λ v. refl) w))
@@ -120,4 +120,4 @@ module _ (image : List ℕ) (h : History) (g : Gathering) (s : StateOf h g) (fro
       let v = gathered_words g in
       let w = image_words image in
       let refuses : gathered_pixel_refusal g p ≡ pixel_fault v p = past-fault g p pixel ∙ rw faultless in
-      ap (λ (r : Refusal). answered r v p) refuses ∙ (same-single v w p words ∙ ap (λ (r : Refusal). answered r w p) (sym (past-tests image p whole pixel)))
+      ap (λ (r : Verdict). answered r v p) refuses ∙ (same-single v w p words ∙ ap (λ (r : Verdict). answered r w p) (sym (past-tests image p whole pixel)))

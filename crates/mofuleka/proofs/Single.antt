@@ -2,7 +2,7 @@
 -- call was accepted alone.
 -- Assumes nothing.
 use Prim.Native.Nat.{ℕ, ◌≤◌, ◌<◌}
-use mathlib.Core.Path.{◌≡◌, refl, sym, ap, ◌∙◌}
+use mathlib.Core.Path.{◌≡◌, refl, sym, ap, subst, ◌∙◌}
 use mathlib.Core.Logic.{◌↔◌}
 use mathlib.Core.Bool.{Bool, true, false, cond, false≢true}
 use mathlib.Core.List.{List}
@@ -10,15 +10,14 @@ use native.Mathlib.Omega.{arith}
 use borrow.Author.Tests.{ltb-false, le-ltb, eqb-false, ne_eqb}
 use lib.Dec.{eqb, ltb}
 use lib.ListN.{length}
-use Rattle.refusal.specs.Code.{accepted_by, or_else}
+use Rattle.std.specs.Prelude.{Result, Ok, Err, MatchResult}
+use Rattle.refusal.specs.Code.{accepted_by, or_else, Verdict, accepted, verdict_of}
 use Rattle.refusal.specs.declared.Refusal.{Refusal}
-use Rattle.refusal.specs.declared.Refusal.TheVariants.{None, ImageLength, ShortSlice, PastTheEnd}
-use Rattle.refusal.proofs.Order.{or-refused, earlier-accepted, later-accepted}
+use Rattle.refusal.specs.declared.Refusal.TheVariants.{ImageLength, ShortSlice, PastTheEnd}
 use Rattle.eeprom.specs.Image.{image_words}
 use Rattle.eeprom.proofs.Refusals.{no_length}
 use Rattle.pixel.specs.Answer.{pixel_walk, pixel_fault, answered}
-use Rattle.pixel.proofs.Exactly.{answered-refusal}
-use Rattle.pixel.specs.declared.PixelAnswer.{PixelAnswer}
+use Rattle.pixel.specs.declared.PixelEntries.{PixelEntries}
 use Rattle.util.specs.Words.{word_at, listed}
 use Rattle.util.specs.Lists.{tab}
 use Rattle.util.proofs.Filled.{tab-at, tab-same}
@@ -31,65 +30,45 @@ use Rattle.gathering.specs.declared.Gathering.{Gathering}
 use Rattle.gathering.proofs.Chosen.{at_places, stored-cells}
 use Rattle.layout.specs.GatheringBytes.{mark_at, gathering_in}
 use Rattle.layout.specs.Sizes.{gathering_size, pixel_size}
-use Rattle.layout.specs.PixelBytes.{pixel_bytes}
-use Rattle.mofuleka.specs.Answers.{refusal_word, short_for}
+use Rattle.mofuleka.specs.Answers.{short_for}
 use Rattle.mofuleka.specs.Images.{lent_after}
 use Rattle.mofuleka.specs.Gatherings.{stored_gathering}
-use Rattle.mofuleka.specs.Pixels.{bytes_at, slice_pixel_refusal}
-use Rattle.mofuleka.proofs.Words.{zero-accepted}
-use Rattle.mofuleka.proofs.Lent.{lent_same}
-
--- what was refused already need not be asked again
-pub asked-again : (a c d : Refusal) → or_else a (or_else c (or_else a d)) ≡ or_else a (or_else c d)
-asked-again a c d = go (accepted_by a) refl
-  where
-    go : (t : Bool) → accepted_by a ≡ t → or_else a (or_else c (or_else a d)) ≡ or_else a (or_else c d)
-    go true e = rw e
-    go false e = or-refused a _ e ∙ sym (or-refused a _ e)
+use Rattle.mofuleka.specs.Pixels.{numbers, bytes_at, slice_pixel_refusal}
 
 -- where 2 was not given, there is room; so an accepted call's slice has it
 pub long-enough : (size n : ℕ) → accepted_by (short_for size n) ≡ true → size ≤ n
 long-enough size n e = go (ltb n size) refl e
   where
-    go : (t : Bool) → ltb n size ≡ t → accepted_by (cond t ShortSlice None) ≡ true → size ≤ n
+    go : (t : Bool) → ltb n size ≡ t → accepted_by (cond t (Err ShortSlice) accepted) ≡ true → size ≤ n
     go true h e = absurd (false≢true e)
     go false h e = ltb-false n size h
 
-pub room : (earlier : Refusal) (n : ℕ) (own : Refusal) → accepted_by (or_else earlier (or_else (short_for pixel_size n) own)) ≡ true → pixel_size ≤ n
-room earlier n own e = long-enough pixel_size n (earlier-accepted (short_for pixel_size n) own (later-accepted earlier (or_else (short_for pixel_size n) own) e))
-
 -- refusal 1 exactly for every length but 1,664
-pub slice-1 : (image : List ℕ) (p n : ℕ) → (slice_pixel_refusal image p n ≡ ImageLength) ↔ (length image ≡ 1664 → ⊥)
+pub slice-1 : (image : List ℕ) (p n : ℕ) → (slice_pixel_refusal image p n ≡ Err ImageLength) ↔ (length image ≡ 1664 → ⊥)
 slice-1 image p n = (λ e. to (eqb (length image) 1664) (ltb p 768) (ltb n pixel_size) refl e, λ h. rw (ne_eqb (length image) 1664 h))
   where
     to : (a b c : Bool) → eqb (length image) 1664 ≡ a
-        → or_else (or_else (cond a None ImageLength) (cond b None PastTheEnd)) (or_else (cond c ShortSlice None) (pixel_fault (image_words image) p)) ≡ ImageLength → length image ≡ 1664 → ⊥
+        → or_else (or_else (cond a accepted (Err ImageLength)) (cond b accepted (Err PastTheEnd))) (or_else (cond c (Err ShortSlice) accepted) (pixel_fault (image_words image) p)) ≡ Err ImageLength → length image ≡ 1664 → ⊥
     to false b c t e = eqb-false (length image) 1664 t
     to true false c t e = absurd (let z : ◌≡◌ {A = ℕ} 0 1 = cc in omega arith)
     to true true true t e = absurd (let z : ◌≡◌ {A = ℕ} 0 1 = cc in omega arith)
     to true true false t e = absurd (no_length (pixel_walk (image_words image) p) e)
 
--- ---- an answer laid out
-abbrev pub numbers : PixelAnswer → List ℕ
-numbers a = pixel_bytes a.offset a.alpha a.k_ta
-
-pub answered-numbers : (r : Refusal) (w : ℕ → ℕ) (p : ℕ) → accepted_by r ≡ true → numbers (answered r w p) ≡ bytes_at w p
+-- ---- an answer laid out: what `lay_pixel` ensures of the entries over the words w, past other tests
+pub laid : (q : Verdict) (w : ℕ → ℕ) (p n : ℕ) (before : List ℕ) {found : Result PixelEntries Refusal} {t : Verdict} {x : List ℕ} → found ≡ answered q w p
+    → t ≡ or_else (short_for pixel_size n) (verdict_of found)
+    → MatchResult found (λ e. x ≡ lent_after (accepted_by t) (numbers e) before) (λ r. x ≡ before)
+    → (t ≡ or_else (short_for pixel_size n) q) × (x ≡ lent_after (accepted_by t) (bytes_at w p) before)
 unfolding answered
-answered-numbers r w p e = rw e
-
--- what `lay_pixel` ensures of the answer q over the words w, and the refusal that it comes to
-pub laid : (earlier q s : Refusal) (w : ℕ → ℕ) (p n : ℕ) (found : PixelAnswer) (r : ℕ) (before x : List ℕ) → found ≡ answered q w p
-    → or_else earlier (or_else (short_for pixel_size n) q) ≡ s
-    → r ≡ refusal_word (or_else earlier (or_else (short_for pixel_size n) found.refusal))
-    → x ≡ lent_after (eqb r 0) (numbers found) before
-    → (r ≡ refusal_word s) × (x ≡ lent_after (eqb r 0) (bytes_at w p) before)
-laid earlier q s w p n found r before x is same er ex =
-    let own : found.refusal ≡ q = ap (λ (a : PixelAnswer). a.refusal) is ∙ answered-refusal q w p in
-    let word : r ≡ refusal_word s = er ∙ ap refusal_word (ap (λ (y : Refusal). or_else earlier (or_else (short_for pixel_size n) y)) own ∙ same) in
-    let accepted : eqb r 0 ≡ true → accepted_by q ≡ true =
-    λ z. later-accepted (short_for pixel_size n) q
-    (later-accepted earlier (or_else (short_for pixel_size n) q) (ap accepted_by same ∙ sym (zero-accepted s) ∙ ap (λ (m : ℕ). eqb m 0) (sym word) ∙ z)) in
-    (word, ex ∙ lent_same (eqb r 0) (λ (l : List ℕ). l) before (λ z. ap numbers is ∙ answered-numbers q w p (accepted z)))
+laid (Ok done) w p n before {found} {t} {x} is et ex =
+    (et ∙ rw is, subst (λ (f : Result PixelEntries Refusal). MatchResult f (λ e. x ≡ lent_after (accepted_by t) (numbers e) before) (λ r. x ≡ before)) is ex)
+laid (Err e) w p n before {found} {t} {x} is et ex =
+    let word : t ≡ or_else (short_for pixel_size n) (Err e) = et ∙ rw is in
+    (word, subst (λ (f : Result PixelEntries Refusal). MatchResult f (λ e. x ≡ lent_after (accepted_by t) (numbers e) before) (λ r. x ≡ before)) is ex ∙ rw (word, refused (short_for pixel_size n)))
+  where
+    refused : (s : Verdict) → accepted_by (or_else s (Err e)) ≡ false
+    refused (Ok done) = refl
+    refused (Err r) = refl
 
 -- ---- the cells of a gathering's bytes
 pub standing : (s : List ℕ) → gathering_size ≤ length s → stored_gathering s ≡ gathering_in s

@@ -1,7 +1,7 @@
 -- What decoding an image into four lent slices answers and leaves behind.
 -- Assumes nothing.
 use Rattle.std.specs.Prelude.{ℕ, Bool, cond, ◌||◌, List, ◌++◌, ltb, length, drop}
-use Rattle.refusal.specs.declared.Refusal.{Refusal}
+use Rattle.refusal.specs.Code.{Verdict}
 use Rattle.util.specs.Lists.{tab}
 use Rattle.tables.specs.Entries.{offset_at, alpha_at, kta_at}
 use Rattle.eeprom.specs.Decoding.{decoder_refusal}
@@ -13,7 +13,7 @@ abbrev pub too_short : ℕ → ℕ → ℕ → ℕ → Bool
 too_short offset alpha kta rec = ltb offset offset_table_size || ltb alpha alpha_table_size || ltb kta kta_table_size || ltb rec record_size
 
 -- the decoder's refusal of an image and four such slices
-unfoldable pub slices_refusal : List ℕ → List ℕ → List ℕ → List ℕ → List ℕ → Refusal
+unfoldable pub slices_refusal : List ℕ → List ℕ → List ℕ → List ℕ → List ℕ → Verdict
 slices_refusal image offset alpha kta rec = decoder_refusal image (too_short (length offset) (length alpha) (length kta) (length rec))
 
 -- the tables' bytes, over the words of the image

@@ -1,6 +1,6 @@
 // Images in lent bytes: the decoder's tables and record, laid out in four slices.
-ghost use Rattle.std.specs.Prelude.{◌≡◌, true, false, cond, ◌≤◌, eqb, length};
-ghost use Rattle.refusal.specs.Code.{accepted_by, or_else};
+ghost use Rattle.std.specs.Prelude.{◌≡◌, true, false, cond, ◌≤◌, eqb, length, is_ok, IfOk, MatchResult};
+ghost use Rattle.refusal.specs.Code.{verdict_of};
 ghost use Rattle.eeprom.specs.Image.{image_words};
 ghost use Rattle.layout.specs.Numbers.{shorts_bytes, floats_bytes};
 ghost use Rattle.layout.specs.Inner.Plain.{NoNan};
@@ -10,14 +10,15 @@ ghost use Rattle.record.specs.Fields.{record_of};
 ghost use Rattle.mofuleka.specs.Answers.{refusal_word};
 ghost use Rattle.mofuleka.specs.Images.{too_short, slices_refusal, lent_after, offset_bytes, alpha_bytes, kta_bytes};
 
-use crate::answers::answer;
-use eeprom::{Decoded, from_data};
+use crate::answers::refusal_word;
+use eeprom::from_data;
 use layout::{
-    ALPHA_TABLE_BYTES, K_TA_TABLE_BYTES, OFFSET_TABLE_BYTES, RECORD_BYTES, put_i16s, put_record,
+    ALPHA_TABLE_BYTES, K_TA_TABLE_BYTES, OFFSET_TABLE_BYTES, RECORD_BYTES, put_all, put_record,
     put_table,
 };
 use page::image_length;
-use refusal::{Refusal, accepted, or_else};
+use record::Record;
+use refusal::{Refusal, Verdict};
 
 // Whether one of the four slices has too few bytes for its layout.
 fn too_short(offset: usize, alpha: usize, k_ta: usize, record: usize) -> bool
@@ -41,11 +42,9 @@ pub(crate) fn entries(offset: usize, alpha: usize, k_ta: usize, record: usize) -
     }
 }
 
-// Lays out what was decoded, the record and the three tables, in four slices, and answers; nothing is written where the call is refused. An earlier refusal comes
-// before the decoder's own.
+// Lays out what was decoded, the record and the three tables, in four slices; nothing is written where the call is refused.
 pub(crate) fn lay_out(
-    earlier: Refusal,
-    decoded: Decoded,
+    decoded: Result<Record, Refusal>,
     offsets: &[i16; 768],
     alphas: &[f32; 768],
     k_tas: &[f32; 768],
@@ -53,26 +52,22 @@ pub(crate) fn lay_out(
     alpha: &mut [u8],
     k_ta: &mut [u8],
     record: &mut [u8],
-) -> u64
-    requires record_value { accepted_by decoded.refusal ≡ true → too_short (length offset.old) (length alpha.old) (length k_ta.old) (length «record».old) ≡ false }
-    requires no_nan { accepted_by decoded.refusal ≡ true → NoNan alphas.now × NoNan k_tas.now }
-    ensures answer { result ≡ refusal_word (or_else earlier decoded.refusal) }
-    ensures offset { offset.new ≡ lent_after (eqb result 0) (shorts_bytes offsets.now) offset.old }
-    ensures alpha { alpha.new ≡ lent_after (eqb result 0) (floats_bytes alphas.now) alpha.old }
-    ensures k_ta { k_ta.new ≡ lent_after (eqb result 0) (floats_bytes k_tas.now) k_ta.old }
-    ensures record { «record».new ≡ lent_after (eqb result 0) (record_bytes decoded.«record») «record».old }
-    ensures stored { result ≡ 0 → record_in «record».new ≡ decoded.«record» }
+) -> Verdict
+    requires room { is_ok decoded ≡ true → too_short (length offset.old) (length alpha.old) (length k_ta.old) (length «record».old) ≡ false }
+    requires no_nan { is_ok decoded ≡ true → NoNan alphas.now × NoNan k_tas.now }
+    ensures answer { result ≡ verdict_of decoded }
+    ensures offset { offset.new ≡ lent_after (is_ok decoded) (shorts_bytes offsets.now) offset.old }
+    ensures alpha { alpha.new ≡ lent_after (is_ok decoded) (floats_bytes alphas.now) alpha.old }
+    ensures k_ta { k_ta.new ≡ lent_after (is_ok decoded) (floats_bytes k_tas.now) k_ta.old }
+    ensures record { MatchResult decoded (λ r. «record».new ≡ lent_after true (record_bytes r) «record».old) (λ e. «record».new ≡ «record».old) }
+    ensures stored { IfOk decoded (λ r. record_in «record».new ≡ r) }
 {
-    let own = decoded.refusal;
-    let refusal = or_else(earlier, own);
-    if accepted(refusal) {
-        put_i16s(offset, 0, offsets);
-        put_table(alpha, alphas);
-        put_table(k_ta, k_tas);
-        put_record(decoded.record, record);
-        return 0;
-    }
-    answer(refusal, 0, 0)
+    let laid = decoded?;
+    put_all(offset, 0, offsets);
+    put_table(alpha, alphas);
+    put_table(k_ta, k_tas);
+    put_record(laid, record);
+    Ok(())
 }
 
 // Decodes an image, or a page that begins with one, into the three tables and the record. What the record's bytes are then asked is answered as the image's record is.
@@ -101,15 +96,7 @@ pub fn mofuleka_from_data(
         &mut alphas[..room],
         &mut k_tas[..room],
     );
-    lay_out(
-        Refusal::None,
-        decoded,
-        &offsets,
-        &alphas,
-        &k_tas,
-        offset,
-        alpha,
-        k_ta,
-        record,
-    )
+    refusal_word(lay_out(
+        decoded, &offsets, &alphas, &k_tas, offset, alpha, k_ta, record,
+    ))
 }

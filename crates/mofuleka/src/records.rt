@@ -1,16 +1,17 @@
 // Questions over a record's bytes: the record is read from them, and asked.
 ghost use Rattle.std.specs.Prelude.{◌≡◌};
-ghost use Rattle.mofuleka.specs.Records.{stored_record, present_of, optional_bits, pack_cp};
+ghost use Rattle.mofuleka.specs.Records.{stored_record, k_v_word, correction_word, pixel_correction_word, cp_correction_word, alpha_cp_word, offset_cp_word};
 ghost use Rattle.mofuleka.specs.Records.{k_v_pixel_answer, interleave_correction_pixel_answer, interleave_correction_cp_answer, alpha_cp_answer, offset_reference_cp_answer};
 
-use crate::answers::{pattern_of, selector_refusal, selectors_refusal, slice_answer, subpage_of};
+use crate::answers::{beside, slice_answer, valued};
+use camera::{AccessPattern, Subpage};
 use exact::bits;
 use layout::{RECORD_BYTES, get_record};
 use record::{
-    Optional, Record, alpha_cp_of, blank_record, interleave_correction_cp,
-    interleave_correction_pixel, k_v_pixel, offset_reference_cp_of,
+    Record, alpha_cp_of, blank_record, interleave_correction_cp, interleave_correction_pixel,
+    k_v_pixel, offset_reference_cp_of,
 };
-use refusal::or_else;
+use refusal::Refusal;
 use util::i16_bits;
 
 // The record in a slice, blank where the slice is too short for one.
@@ -24,88 +25,105 @@ fn stored_record(bytes: &[u8]) -> Record
     }
 }
 
-// 1 where there is a number, else 0.
-fn present(x: Optional) -> u8
-    ensures { result ≡ present_of x }
-{
-    match x {
-        Optional::Absent => 0,
-        Optional::Given(_) => 1,
-    }
-}
-
-// The number's bits, 0 where there is none.
-fn optional_bits(x: Optional) -> u32
-    ensures { result ≡ optional_bits x }
-{
-    match x {
-        Optional::Absent => 0,
-        Optional::Given(value) => bits(value),
-    }
-}
-
 // A pixel's Kv.
+fn k_v_word(record: Record, pixel: usize) -> Result<u64, Refusal>
+    ensures { result ≡ k_v_word «record» pixel }
+{
+    let k_v = k_v_pixel(record, pixel)?;
+    Ok(valued(bits(k_v) as u64))
+}
+
 pub fn mofuleka_k_v_pixel(record: &[u8], pixel: usize) -> u64
     ensures { result ≡ k_v_pixel_answer «record».now pixel }
 {
-    let kv = k_v_pixel(stored_record(record), pixel);
-    let past = kv.refusal;
-    slice_answer(past, record.len(), RECORD_BYTES, 0, bits(kv.value))
+    slice_answer(
+        k_v_word(stored_record(record), pixel),
+        record.len(),
+        RECORD_BYTES,
+    )
+}
+
+// Whether there is a correction, beside which it is.
+fn correction_word(correction: Option<f32>) -> u64
+    ensures { result ≡ correction_word correction }
+{
+    match correction {
+        None => beside(0, 0),
+        Some(value) => beside(1, bits(value)),
+    }
 }
 
 // A pixel's correction.
+fn pixel_correction_word(record: Record, pattern: u32, pixel: usize) -> Result<u64, Refusal>
+    ensures { result ≡ pixel_correction_word «record» pattern pixel }
+{
+    let pattern = AccessPattern::try_from(pattern)?;
+    let correction = interleave_correction_pixel(record, pattern, pixel)?;
+    Ok(correction_word(correction))
+}
+
 pub fn mofuleka_interleave_correction_pixel(record: &[u8], pattern: u32, pixel: usize) -> u64
     ensures { result ≡ interleave_correction_pixel_answer «record».now pattern pixel }
 {
-    let asked = interleave_correction_pixel(stored_record(record), pattern_of(pattern), pixel);
-    let correction = asked.correction;
-    let past = asked.refusal;
     slice_answer(
-        or_else(selector_refusal(pattern), past),
+        pixel_correction_word(stored_record(record), pattern, pixel),
         record.len(),
         RECORD_BYTES,
-        present(correction),
-        optional_bits(correction),
     )
 }
 
 // The correction of a subpage's compensation pixel.
+fn cp_correction_word(record: Record, pattern: u32, subpage: u32) -> Result<u64, Refusal>
+    ensures { result ≡ cp_correction_word «record» pattern subpage }
+{
+    let pattern = AccessPattern::try_from(pattern)?;
+    let subpage = Subpage::try_from(subpage)?;
+    Ok(correction_word(interleave_correction_cp(record, pattern, subpage)))
+}
+
 pub fn mofuleka_interleave_correction_cp(record: &[u8], pattern: u32, subpage: u32) -> u64
     ensures { result ≡ interleave_correction_cp_answer «record».now pattern subpage }
 {
-    let correction = interleave_correction_cp(
-        stored_record(record),
-        pattern_of(pattern),
-        subpage_of(subpage),
-    );
     slice_answer(
-        selectors_refusal(pattern, subpage),
+        cp_correction_word(stored_record(record), pattern, subpage),
         record.len(),
         RECORD_BYTES,
-        present(correction),
-        optional_bits(correction),
     )
 }
 
-// The answer to a question about a subpage's compensation pixel, over a record in so many bytes.
-fn cp_answer(bytes: usize, subpage: u32, value: u32) -> u64
-    ensures { result ≡ pack_cp bytes subpage value }
+// The sensitivity of a subpage's compensation pixel.
+// Alike with the next: each is one number of the C interface, and its bits are made in its own way.
+fn alpha_cp_word(record: Record, subpage: u32) -> Result<u64, Refusal>
+    ensures { result ≡ alpha_cp_word «record» subpage }
 {
-    slice_answer(selector_refusal(subpage), bytes, RECORD_BYTES, 0, value)
+    let subpage = Subpage::try_from(subpage)?;
+    Ok(valued(bits(alpha_cp_of(record, subpage)) as u64))
 }
 
-// The sensitivity of a subpage's compensation pixel.
 pub fn mofuleka_alpha_cp(record: &[u8], subpage: u32) -> u64
     ensures { result ≡ alpha_cp_answer «record».now subpage }
 {
-    let alpha = alpha_cp_of(stored_record(record), subpage_of(subpage));
-    cp_answer(record.len(), subpage, bits(alpha))
+    slice_answer(
+        alpha_cp_word(stored_record(record), subpage),
+        record.len(),
+        RECORD_BYTES,
+    )
 }
 
 // The offset of a subpage's compensation pixel.
+fn offset_cp_word(record: Record, subpage: u32) -> Result<u64, Refusal>
+    ensures { result ≡ offset_cp_word «record» subpage }
+{
+    let subpage = Subpage::try_from(subpage)?;
+    Ok(valued(i16_bits(offset_reference_cp_of(record, subpage)) as u64))
+}
+
 pub fn mofuleka_offset_reference_cp(record: &[u8], subpage: u32) -> u64
     ensures { result ≡ offset_reference_cp_answer «record».now subpage }
 {
-    let offset = offset_reference_cp_of(stored_record(record), subpage_of(subpage));
-    cp_answer(record.len(), subpage, i16_bits(offset) as u32)
+    slice_answer(
+        offset_cp_word(stored_record(record), subpage),
+        record.len(),
+        RECORD_BYTES,
+    )
 }

@@ -7,11 +7,9 @@ use mathlib.Core.Logic.{◌↔◌}
 use mathlib.Core.Bool.{Bool, true, false}
 use mathlib.Core.List.{◌++◌}
 use native.Mathlib.Nat.{zero-add}
-use Rattle.refusal.specs.Code.{code_of, accepted_by, or_else}
+use Rattle.refusal.specs.Code.{code_of, accepted_by, or_else, Verdict, accepted}
 use Rattle.refusal.specs.declared.Table.{Table}
 use Rattle.refusal.specs.declared.Table.TheVariants.{Offset, Alpha, Kta}
-use Rattle.refusal.specs.declared.Refusal.{Refusal}
-use Rattle.refusal.specs.declared.Refusal.TheVariants.{None}
 use Rattle.refusal.proofs.Apart.{accepted-none}
 use Rattle.refusal.proofs.Order.{or-passed, or-refused}
 use Rattle.steps.specs.Steps.{first_outside}
@@ -31,25 +29,25 @@ module _ (w : ℕ → ℕ) where
       ∙ ap (or_else (first_outside (pixel_steps w Offset p))) (first-append (pixel_steps w Alpha p) (pixel_steps w Kta p))
 
   -- ---- the walk finds nothing exactly where no pixel has a fault
-  pub all-answered : (first_outside (walk w) ≡ None) ↔ ((p : ℕ) → p < 768 → pixel_fault w p ≡ None)
+  pub all-answered : (first_outside (walk w) ≡ accepted) ↔ ((p : ℕ) → p < 768 → pixel_fault w p ≡ accepted)
   unfolding pixel_walk
   all-answered = (to, from)
     where
-      to : first_outside (walk w) ≡ None → (p : ℕ) → p < 768 → pixel_fault w p ≡ None
+      to : first_outside (walk w) ≡ accepted → (p : ℕ) → p < 768 → pixel_fault w p ≡ accepted
       to e p h =
           none-joined (pixel_steps w Offset p) (pixel_steps w Alpha p ++ pixel_steps w Kta p) (walk-calm w e Offset p h)
           (none-joined (pixel_steps w Alpha p) (pixel_steps w Kta p) (walk-calm w e Alpha p h) (walk-calm w e Kta p h))
 
-      calm : (t : Table) (p : ℕ) → pixel_fault w p ≡ None → first_outside (pixel_steps w t p) ≡ None
+      calm : (t : Table) (p : ℕ) → pixel_fault w p ≡ accepted → first_outside (pixel_steps w t p) ≡ accepted
       calm Offset p e = (none-append (pixel_steps w Offset p) (pixel_steps w Alpha p ++ pixel_steps w Kta p) e).0
       calm Alpha p e = (none-append (pixel_steps w Alpha p) (pixel_steps w Kta p) (none-append (pixel_steps w Offset p) (pixel_steps w Alpha p ++ pixel_steps w Kta p) e).1).0
       calm Kta p e = (none-append (pixel_steps w Alpha p) (pixel_steps w Kta p) (none-append (pixel_steps w Offset p) (pixel_steps w Alpha p ++ pixel_steps w Kta p) e).1).1
 
-      from : ((p : ℕ) → p < 768 → pixel_fault w p ≡ None) → first_outside (walk w) ≡ None
+      from : ((p : ℕ) → p < 768 → pixel_fault w p ≡ accepted) → first_outside (walk w) ≡ accepted
       from h = calm_walk w (λ t p l. calm t p (h p l))
 
   -- ---- what the walk finds first: first one table's, and then, where the tables before it have nothing, the walk's
-  table-names : (t : Table) (r : Refusal) → first_outside (table_steps w t) ≡ r → (r ≡ None → ⊥) → ((code_of r).place < 768) × (first_outside (pixel_steps w t (code_of r).place) ≡ r)
+  table-names : (t : Table) (r : Verdict) → first_outside (table_steps w t) ≡ r → (r ≡ accepted → ⊥) → ((code_of r).place < 768) × (first_outside (pixel_steps w t (code_of r).place) ≡ r)
   unfolding table_steps
   table-names t r e some =
       let f = found-pixel (pixel_steps w t) 768 0 r e some in
@@ -57,20 +55,20 @@ module _ (w : ℕ → ℕ) where
       let place : (code_of r).place ≡ f.0 = table-place w t f.0 r at some in
       (rw place f.1, rw place at)
 
-  calm-at : (t : Table) (p : ℕ) → first_outside (table_steps w t) ≡ None → p < 768 → first_outside (pixel_steps w t p) ≡ None
+  calm-at : (t : Table) (p : ℕ) → first_outside (table_steps w t) ≡ accepted → p < 768 → first_outside (pixel_steps w t p) ≡ accepted
   unfolding table_steps
   calm-at t p e h = rw (← zero-add p) (pixel-none (pixel_steps w t) 768 0 p e h)
 
-  pub decoder-names : (r : Refusal) → first_outside (walk w) ≡ r → (r ≡ None → ⊥) → ((code_of r).place < 768) × (pixel_fault w (code_of r).place ≡ r)
+  pub decoder-names : (r : Verdict) → first_outside (walk w) ≡ r → (r ≡ accepted → ⊥) → ((code_of r).place < 768) × (pixel_fault w (code_of r).place ≡ r)
   decoder-names r e some = offset (accepted_by o) refl
     where
-      o : Refusal
+      o : Verdict
       o = first_outside (table_steps w Offset)
 
-      a : Refusal
+      a : Verdict
       a = first_outside (table_steps w Alpha)
 
-      k : Refusal
+      k : Verdict
       k = first_outside (table_steps w Kta)
 
       p : ℕ

@@ -10,18 +10,18 @@ use native.Mathlib.Omega.{arith}
 use borrow.Author.Tests.{eq-eqb, ne_eqb, lt-ltb, le-ltb, ltb-true, ltb-false, eqb-true, eqb-false}
 use lib.Dec.{eqb, ltb}
 use lib.ListN.{length}
-use Rattle.refusal.specs.Code.{code_of, accepted_by, or_else}
+use Rattle.std.specs.Prelude.{Err}
+use Rattle.refusal.specs.Code.{code_of, accepted_by, or_else, Verdict, accepted, verdict_of}
 use Rattle.refusal.specs.declared.Table.{Table}
 use Rattle.refusal.specs.declared.Table.TheVariants.{Offset, Alpha, Kta}
-use Rattle.refusal.specs.declared.Refusal.{Refusal}
-use Rattle.refusal.specs.declared.Refusal.TheVariants.{None, ImageLength, PastTheEnd}
+use Rattle.refusal.specs.declared.Refusal.TheVariants.{ImageLength, PastTheEnd}
+use Rattle.refusal.proofs.Order.{granted-verdict}
 use Rattle.steps.specs.Steps.{Step, term, sum, refusal_in, first_outside, AllInside, FirstIs}
 use Rattle.steps.proofs.Meaning.{not_none, first-refused, refused-first}
 use Rattle.steps.proofs.Behind.{none-behind, step-behind, test-behind}
 use Rattle.walk.specs.Walk.{term_steps, pixel_steps}
-use Rattle.tables.specs.Entries.{offset_at, alpha_at, kta_at}
 use Rattle.eeprom.specs.Image.{image_words}
-use Rattle.pixel.specs.Answer.{pixel_walk, pixel_fault, past_refusal, tests_of, pixel_refusal, answer_with, refused_with, answered}
+use Rattle.pixel.specs.Answer.{pixel_walk, pixel_fault, past_refusal, tests_of, pixel_refusal, answered}
 
 -- ---- every step of a pixel names it
 unfoldable Placed : ℕ → List Step → Type 0
@@ -44,13 +44,13 @@ placed-table w Offset p = (refl, (refl, (refl, (refl, tt))))
 placed-table w Alpha p = (refl, (refl, (refl, tt)))
 placed-table w Kta p = (refl, (refl, tt))
 
-place_in : (p : ℕ) (xs : List Step) (r : Refusal) → Placed p xs → first_outside xs ≡ r → (r ≡ None → ⊥) → (code_of r).place ≡ p
-place_in p xs r a e n = let f = refused-first xs r e n in sym (ap (λ (q : Refusal). (code_of q).place) f.refuses) ∙ placed-in p f.before f.step f.after (rw (← f.split) a)
+place_in : (p : ℕ) (xs : List Step) (r : Verdict) → Placed p xs → first_outside xs ≡ r → (r ≡ accepted → ⊥) → (code_of r).place ≡ p
+place_in p xs r a e n = let f = refused-first xs r e n in sym (ap (λ (q : Verdict). (code_of q).place) f.refuses) ∙ placed-in p f.before f.step f.after (rw (← f.split) a)
 
-pub table-place : (w : ℕ → ℕ) (t : Table) (p : ℕ) (r : Refusal) → first_outside (pixel_steps w t p) ≡ r → (r ≡ None → ⊥) → (code_of r).place ≡ p
+pub table-place : (w : ℕ → ℕ) (t : Table) (p : ℕ) (r : Verdict) → first_outside (pixel_steps w t p) ≡ r → (r ≡ accepted → ⊥) → (code_of r).place ≡ p
 table-place w t p r = place_in p (pixel_steps w t p) r (placed-table w t p)
 
-pub own-place : (w : ℕ → ℕ) (p : ℕ) (r : Refusal) → pixel_fault w p ≡ r → (r ≡ None → ⊥) → (code_of r).place ≡ p
+pub own-place : (w : ℕ → ℕ) (p : ℕ) (r : Verdict) → pixel_fault w p ≡ r → (r ≡ accepted → ⊥) → (code_of r).place ≡ p
 unfolding pixel_walk
 own-place w p r =
     place_in p (pixel_walk w p) r
@@ -58,18 +58,18 @@ own-place w p r =
     (placed-joined p (pixel_steps w Alpha p) (pixel_steps w Kta p) (placed-table w Alpha p) (placed-table w Kta p)))
 
 -- ---- the order of the tests
-length-first : (n p : ℕ) → (tests_of n p ≡ ImageLength) ↔ (n ≡ 1664 → ⊥)
+length-first : (n p : ℕ) → (tests_of n p ≡ Err ImageLength) ↔ (n ≡ 1664 → ⊥)
 length-first n p = (λ e. to (eqb n 1664) (ltb p 768) refl e, λ h. rw (ne_eqb n 1664 h))
   where
-    to : (a b : Bool) → eqb n 1664 ≡ a → or_else (cond a None ImageLength) (cond b None PastTheEnd) ≡ ImageLength → n ≡ 1664 → ⊥
+    to : (a b : Bool) → eqb n 1664 ≡ a → or_else (cond a accepted (Err ImageLength)) (cond b accepted (Err PastTheEnd)) ≡ Err ImageLength → n ≡ 1664 → ⊥
     to false b t e = eqb-false n 1664 t
     to true true t e = absurd (let z : ◌≡◌ {A = ℕ} 0 1 = cc in omega arith)
     to true false t e = absurd (let z : ◌≡◌ {A = ℕ} 0 1 = cc in omega arith)
 
-pixel-second : (n p : ℕ) → (tests_of n p ≡ PastTheEnd) ↔ ((n ≡ 1664) × (768 ≤ p))
+pixel-second : (n p : ℕ) → (tests_of n p ≡ Err PastTheEnd) ↔ ((n ≡ 1664) × (768 ≤ p))
 pixel-second n p = (λ e. to (eqb n 1664) (ltb p 768) refl refl e, λ h. rw (eq-eqb n 1664 h.0, le-ltb p 768 h.1))
   where
-    to : (a b : Bool) → eqb n 1664 ≡ a → ltb p 768 ≡ b → or_else (cond a None ImageLength) (cond b None PastTheEnd) ≡ PastTheEnd → (n ≡ 1664) × (768 ≤ p)
+    to : (a b : Bool) → eqb n 1664 ≡ a → ltb p 768 ≡ b → or_else (cond a accepted (Err ImageLength)) (cond b accepted (Err PastTheEnd)) ≡ Err PastTheEnd → (n ≡ 1664) × (768 ≤ p)
     to false b t u e = absurd (let z : ◌≡◌ {A = ℕ} 0 1 = cc in omega arith)
     to true true t u e = absurd (let z : ◌≡◌ {A = ℕ} 0 1 = cc in omega arith)
     to true false t u e = (eqb-true n 1664 t, ltb-false p 768 u)
@@ -79,10 +79,10 @@ pub record Asked (image : List ℕ) (p : ℕ) : Type 0 where
   pub whole : length image ≡ 1664
   pub pixel : p < 768
 
-pub none_first : (image : List ℕ) (p : ℕ) → (tests_of (length image) p ≡ None) ↔ Asked image p
+pub none_first : (image : List ℕ) (p : ℕ) → (tests_of (length image) p ≡ accepted) ↔ Asked image p
 none_first image p = (λ e. to (eqb (length image) 1664) (ltb p 768) refl refl e, λ h. rw (eq-eqb (length image) 1664 h.whole, lt-ltb p 768 h.pixel))
   where
-    to : (a b : Bool) → eqb (length image) 1664 ≡ a → ltb p 768 ≡ b → or_else (cond a None ImageLength) (cond b None PastTheEnd) ≡ None → Asked image p
+    to : (a b : Bool) → eqb (length image) 1664 ≡ a → ltb p 768 ≡ b → or_else (cond a accepted (Err ImageLength)) (cond b accepted (Err PastTheEnd)) ≡ accepted → Asked image p
     to false b t u e = absurd (let z : ◌≡◌ {A = ℕ} 0 1 = cc in omega arith)
     to true false t u e = absurd (let z : ◌≡◌ {A = ℕ} 0 1 = cc in omega arith)
     to true true t u e = record { whole = eqb-true (length image) 1664 t; pixel = ltb-true p 768 u }
@@ -90,7 +90,7 @@ none_first image p = (λ e. to (eqb (length image) 1664) (ltb p 768) refl refl e
 pub within : (p : ℕ) → accepted_by (past_refusal p) ≡ true → p < 768
 within p e = go (ltb p 768) refl e
   where
-    go : (b : Bool) → ltb p 768 ≡ b → accepted_by (cond b None PastTheEnd) ≡ true → p < 768
+    go : (b : Bool) → ltb p 768 ≡ b → accepted_by (cond b accepted (Err PastTheEnd)) ≡ true → p < 768
     go true t e = ltb-true p 768 t
     go false t e = absurd (let z : ◌≡◌ {A = ℕ} 0 1 = cc in omega arith)
 
@@ -98,26 +98,15 @@ within p e = go (ltb p 768) refl e
 pub past-tests : (image : List ℕ) (p : ℕ) → length image ≡ 1664 → p < 768 → pixel_refusal image p ≡ pixel_fault (image_words image) p
 past-tests image p n h = rw (eq-eqb (length image) 1664 n, lt-ltb p 768 h)
 
--- beside a refusal the numbers are zero
-pub refused-answer : {r s : Refusal} (w : ℕ → ℕ) (p : ℕ) → r ≡ s → accepted_by r ≡ false → refused_with r ≡ answered s w p
+pub answered-refusal : (r : Verdict) (w : ℕ → ℕ) (p : ℕ) → (verdict_of (answered r w p)) ≡ r
 unfolding answered
-refused-answer {r} {s} w p e h =
-    let k : accepted_by s ≡ false = ap accepted_by (sym e) ∙ h in
-    rw k (ap refused_with e)
-
-pub answered-refusal : (r : Refusal) (w : ℕ → ℕ) (p : ℕ) → (answered r w p).refusal ≡ r
-unfolding answered
-answered-refusal r w p = go (accepted_by r)
-  where
-    go : (b : Bool) → (cond b (answer_with r (offset_at w p) (alpha_at w p) (kta_at w p)) (refused_with r)).refusal ≡ r
-    go true = refl
-    go false = refl
+answered-refusal r w p = granted-verdict r _
 
 -- neither test refuses as a step does
 tests-apart : (n p : ℕ) (s : Step) → tests_of n p ≡ refusal_in s → ⊥
 tests-apart n p s e = go (eqb n 1664) (ltb p 768) s e
   where
-    go : (a b : Bool) (s : Step) → or_else (cond a None ImageLength) (cond b None PastTheEnd) ≡ refusal_in s → ⊥
+    go : (a b : Bool) (s : Step) → or_else (cond a accepted (Err ImageLength)) (cond b accepted (Err PastTheEnd)) ≡ refusal_in s → ⊥
     go false b (term t q z) e = let z : ◌≡◌ {A = ℕ} 0 1 = cc in omega arith
     go false b (sum t q z) e = let z : ◌≡◌ {A = ℕ} 0 1 = cc in omega arith
     go true false (term t q z) e = let z : ◌≡◌ {A = ℕ} 0 1 = cc in omega arith
@@ -125,29 +114,29 @@ tests-apart n p s e = go (eqb n 1664) (ltb p 768) s e
     go true true (term t q z) e = let z : ◌≡◌ {A = ℕ} 0 1 = cc in omega arith
     go true true (sum t q z) e = let z : ◌≡◌ {A = ℕ} 0 1 = cc in omega arith
 
-no_length : (s : Step) → refusal_in s ≡ ImageLength → ⊥
+no_length : (s : Step) → refusal_in s ≡ Err ImageLength → ⊥
 no_length (term t q z) e = let z : ◌≡◌ {A = ℕ} 0 1 = cc in omega arith
 no_length (sum t q z) e = let z : ◌≡◌ {A = ℕ} 0 1 = cc in omega arith
 
-no-past : (s : Step) → refusal_in s ≡ PastTheEnd → ⊥
+no-past : (s : Step) → refusal_in s ≡ Err PastTheEnd → ⊥
 no-past (term t q z) e = let z : ◌≡◌ {A = ℕ} 0 1 = cc in omega arith
 no-past (sum t q z) e = let z : ◌≡◌ {A = ℕ} 0 1 = cc in omega arith
 
 module _ (image : List ℕ) (p : ℕ) where
-  abbrev tests : Refusal
+  abbrev tests : Verdict
   tests = tests_of (length image) p
 
   abbrev steps : List Step
   steps = pixel_walk (image_words image) p
 
-  pub pixel-1 : (pixel_refusal image p ≡ ImageLength) ↔ (length image ≡ 1664 → ⊥)
-  pixel-1 = Iff.trans (test-behind tests steps ImageLength (λ e. let z : ◌≡◌ {A = ℕ} 0 1 = cc in omega arith) no_length) (length-first (length image) p)
+  pub pixel-1 : (pixel_refusal image p ≡ Err ImageLength) ↔ (length image ≡ 1664 → ⊥)
+  pixel-1 = Iff.trans (test-behind tests steps (Err ImageLength) (λ e. let z : ◌≡◌ {A = ℕ} 0 1 = cc in omega arith) no_length) (length-first (length image) p)
 
-  pub pixel-11 : (pixel_refusal image p ≡ PastTheEnd) ↔ ((length image ≡ 1664) × (768 ≤ p))
-  pixel-11 = Iff.trans (test-behind tests steps PastTheEnd (λ e. let z : ◌≡◌ {A = ℕ} 0 1 = cc in omega arith) no-past) (pixel-second (length image) p)
+  pub pixel-11 : (pixel_refusal image p ≡ Err PastTheEnd) ↔ ((length image ≡ 1664) × (768 ≤ p))
+  pixel-11 = Iff.trans (test-behind tests steps (Err PastTheEnd) (λ e. let z : ◌≡◌ {A = ℕ} 0 1 = cc in omega arith) no-past) (pixel-second (length image) p)
 
   -- answered exactly where every step of this pixel is inside 16 bits, whatever another pixel's are
-  pub pixel-answered : (pixel_refusal image p ≡ None) ↔ (Asked image p × AllInside steps)
+  pub pixel-answered : (pixel_refusal image p ≡ accepted) ↔ (Asked image p × AllInside steps)
   pixel-answered = Iff.trans (none-behind tests steps) (Iff.and (none_first image p) Iff.rfl)
 
   -- refused as a step is, with 3 or 4, a table and a place, exactly where the first of this pixel's steps that is outside refuses so

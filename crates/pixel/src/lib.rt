@@ -4,28 +4,27 @@
 #![tactic(auto)]
 
 ghost use Rattle.std.specs.Prelude.{◌≡◌, true, ◌^◌, ◌<◌, nat_abs};
-ghost use Rattle.refusal.specs.Code.{accepted_by};
 ghost use Rattle.util.specs.Words.{word_at, listed};
 ghost use Rattle.util.specs.Sums.{in16};
 ghost use Rattle.util.specs.Lists.{tab};
 ghost use Rattle.pixel.specs.Needed.{needed_by};
 ghost use Rattle.pixel.specs.Inner.Places.{Rising, Below};
-ghost use Rattle.pixel.specs.Answer.{past_refusal, tests_of, refused_with, pixel_of};
-ghost use Rattle.pixel.specs.Inner.From.{fault_with, told, answer_from};
+ghost use Rattle.pixel.specs.Answer.{past_refusal, tests_of, pixel_of};
+ghost use Rattle.pixel.specs.Inner.From.{fault_with, summed, answer_from};
 
 use camera::{
     AVERAGE, COLUMNS, OFFSET_COMPENSATION, PIXEL_CALIBRATION, ROWS, SENSITIVITY_SCALE,
     V_AND_TA_SCALE,
 };
 use exact::over_power;
-use refusal::{Refusal, Table, accepted, or_else};
+use refusal::{Refusal, Table, Verdict};
+use std::array;
 use util::{u16_from_bits, word};
 use walk::{PixelTerms, fault_of, k_ta_average_word, k_ta_terms, shared_terms};
 
-// A refusal, and the numbers beside it: positive zero unless the call was accepted.
-#[derive(Clone, Copy)]
-pub struct PixelAnswer {
-    pub refusal: Refusal,
+// A pixel's entries in the three tables.
+#[derive(Clone, Copy, Debug, PartialEq)]
+pub struct PixelEntries {
     pub offset: i16,
     pub alpha: f32,
     pub k_ta: f32,
@@ -54,57 +53,30 @@ pub fn needed(p: usize) -> [usize; 11]
     ]
 }
 
-// The answer to a refused call.
-pub fn refused(refusal: Refusal) -> PixelAnswer
-    ensures { result ≡ refused_with refusal }
-{
-    PixelAnswer {
-        refusal,
-        offset: 0,
-        alpha: 0.0,
-        k_ta: 0.0,
-    }
-}
-
 // The first fault of pixel p with these terms in the three tables.
-fn first_fault(p: u32, offset: PixelTerms, alpha: PixelTerms, k_ta: PixelTerms) -> Refusal
+#[tactic(auto, unfolding(steps::specs::Steps::first_outside))]
+fn first_fault(p: u32, offset: PixelTerms, alpha: PixelTerms, k_ta: PixelTerms) -> Verdict
     ensures { result ≡ fault_with p offset alpha k_ta }
 {
-    or_else(
-        fault_of(Table::Offset, p, offset),
-        or_else(
-            fault_of(Table::Alpha, p, alpha),
-            fault_of(Table::Kta, p, k_ta),
-        ),
-    )
+    fault_of(Table::Offset, p, offset)?;
+    fault_of(Table::Alpha, p, alpha)?;
+    fault_of(Table::Kta, p, k_ta)
 }
 
-// The answer with these sums, where there is no refusal: alpha's over the power of two in the top bits of its scales, and Kta's over the one in its own.
-fn answer(
-    refusal: Refusal,
-    offset: i32,
-    alpha: i32,
-    alpha_scales: u16,
-    k_ta: i32,
-    k_ta_scales: u16,
-) -> PixelAnswer
-    requires { (accepted_by refusal ≡ true → in16 offset ≡ true) × (nat_abs alpha < 2 ^ 24) × (nat_abs k_ta < 2 ^ 24) }
-    ensures { result ≡ told refusal offset alpha alpha_scales k_ta k_ta_scales }
+// The entries with these sums: alpha's over the power of two in the top bits of its scales, and Kta's over the one in its own.
+fn entries(offset: i32, alpha: i32, alpha_scales: u16, k_ta: i32, k_ta_scales: u16) -> PixelEntries
+    requires { (in16 offset ≡ true) × (nat_abs alpha < 2 ^ 24) × (nat_abs k_ta < 2 ^ 24) }
+    ensures { result ≡ summed offset alpha alpha_scales k_ta k_ta_scales }
 {
-    if accepted(refusal) {
-        PixelAnswer {
-            refusal,
-            offset: offset as i16,
-            alpha: over_power(alpha, u16_from_bits(alpha_scales, 12, 4) as usize + 30),
-            k_ta: over_power(k_ta, u16_from_bits(k_ta_scales, 4, 4) as usize + 8),
-        }
-    } else {
-        refused(refusal)
+    PixelEntries {
+        offset: offset as i16,
+        alpha: over_power(alpha, u16_from_bits(alpha_scales, 12, 4) as usize + 30),
+        k_ta: over_power(k_ta, u16_from_bits(k_ta_scales, 4, 4) as usize + 8),
     }
 }
 
 // The answer for pixel p, from the words that it needs.
-pub fn pixel_from(words: &[u16; 11], p: usize) -> PixelAnswer
+pub fn pixel_from(words: &[u16; 11], p: usize) -> Result<PixelEntries, Refusal>
     requires { p < 768 }
     ensures { result ≡ answer_from words.now p }
 {
@@ -112,27 +84,27 @@ pub fn pixel_from(words: &[u16; 11], p: usize) -> PixelAnswer
     let offset = shared_terms(words[0], words[1], words[2], words[3], own, 10, p);
     let alpha = shared_terms(words[4], words[5], words[6], words[7], own, 4, p);
     let k_ta = k_ta_terms(words[8], words[9], own, p);
-    let refusal = first_fault(p as u32, offset, alpha, k_ta);
-    answer(refusal, offset.sum, alpha.sum, words[4], k_ta.sum, words[9])
+    first_fault(p as u32, offset, alpha, k_ta)?;
+    Ok(entries(offset.sum, alpha.sum, words[4], k_ta.sum, words[9]))
 }
 
 // Refusal 11 where p is no pixel.
-pub fn past_the_end(p: usize) -> Refusal
+pub fn past_the_end(p: usize) -> Verdict
     ensures { result ≡ past_refusal p }
 {
     if 768 <= p {
-        Refusal::PastTheEnd
+        Err(Refusal::PastTheEnd)
     } else {
-        Refusal::None
+        Ok(())
     }
 }
 
 // Refusal 1 for an image of so many bytes, then 11.
-pub fn asked(bytes: usize, p: usize) -> Refusal
+pub fn asked(bytes: usize, p: usize) -> Verdict
     ensures { result ≡ tests_of bytes p }
 {
     if bytes != 1664 {
-        return Refusal::ImageLength;
+        return Err(Refusal::ImageLength);
     }
     past_the_end(p)
 }
@@ -141,24 +113,14 @@ pub fn asked(bytes: usize, p: usize) -> Refusal
 pub fn words_at(image: &[u8], numbers: &[usize; 11]) -> [u16; 11]
     ensures { result ≡ tab (λ k. word_at image.now (listed numbers.now k)) 11 }
 {
-    let mut words = [0; 11];
-    let mut k = 0;
-    while k < 11 {
-        words[k] = word(image, numbers[k]);
-        k += 1;
-    }
-    words
+    array::from_fn(|k| word(image, numbers[k]))
 }
 
 // Pixel p of an image. Refusals 1 and 11, then 3 or 4 for this pixel's own numbers: offset's, alpha's, Kta's.
-pub fn pixel(image: &[u8], p: usize) -> PixelAnswer
+pub fn pixel(image: &[u8], p: usize) -> Result<PixelEntries, Refusal>
     ensures { result ≡ pixel_of image.now p }
 {
-    let refusal = asked(image.len(), p);
-    if accepted(refusal) {
-        let words = words_at(image, &needed(p));
-        pixel_from(&words, p)
-    } else {
-        refused(refusal)
-    }
+    asked(image.len(), p)?;
+    let words = words_at(image, &needed(p));
+    pixel_from(&words, p)
 }

@@ -10,6 +10,7 @@ use lib.IntN.{ℤ, pos}
 use lib.Ieee.{Float, nan}
 use lib.ListN.{get_or}
 use mathlib.Core.List.{List}
+use Rattle.std.specs.Prelude.{Option, Some, None}
 use Rattle.exact.specs.Dyadic.{plus_zero}
 use Rattle.exact.proofs.Values.{zero_is}
 use Rattle.camera.specs.declared.AccessPattern.{AccessPattern}
@@ -20,8 +21,6 @@ use Rattle.exact.specs.Fraction.{float}
 use Rattle.record.specs.Fields.{record_of}
 use Rattle.record.specs.Questions.{correction_cp, alpha_cp_of, offset_reference_cp_of}
 use Rattle.datasheet.specs.Formulas as D
-use Rattle.record.specs.declared.Optional.{Optional}
-use Rattle.record.specs.declared.Optional.TheVariants.{Absent, Given}
 use Rattle.record.proofs.Agreement.{agrees}
 
 -- the datasheet numbers subpages 0 and 1, and reads interleaved or not
@@ -54,9 +53,9 @@ module _ (w : ℕ → ℕ) (words : (n : ℕ) → w n < 2 ^ 16) where
   offset-one = ap (λ (l : List ℤ). get_or l 1 (pos 0)) (agrees w words).offset_reference_cp
 
   -- what is added to the compensation pixel's offset
-  abbrev added : Optional → Float
-  added Absent = plus_zero
-  added (Given x) = x
+  abbrev added : Option Float → Float
+  added None = plus_zero
+  added (Some x) = x
 
   pub cp-corrected : (pattern : AccessPattern) (subpage : Subpage) → added (correction_cp (record_of w) pattern subpage) ≡ float (D.cp_correction EE (interleaved pattern) (numbered subpage))
   unfolding correction_cp D.cp_correction
@@ -67,9 +66,9 @@ module _ (w : ℕ → ℕ) (words : (n : ℕ) → w n < 2 ^ 16) where
 
   -- and it is given exactly there, whatever C1 is
   pub cp-given : (pattern : AccessPattern) (subpage : Subpage)
-      → (correction_cp (record_of w) pattern subpage ≡ Given (float (D.il_chess_c1 EE))) ↔ ((interleaved pattern ≡ true) × (numbered subpage ≡ 1))
+      → (correction_cp (record_of w) pattern subpage ≡ Some (float (D.il_chess_c1 EE))) ↔ ((interleaved pattern ≡ true) × (numbered subpage ≡ 1))
   unfolding correction_cp
   cp-given Interleave Zero = (λ e. let z : ◌≡◌ {A = ℕ} 0 1 = cc in absurd (omega arith), λ k. absurd (omega (arith, k.1)))
-  cp-given Interleave One = (λ e. (refl, refl), λ k. ap Given (agrees w words).interleave_correction_cp)
+  cp-given Interleave One = (λ e. (refl, refl), λ k. ap Some (agrees w words).interleave_correction_cp)
   cp-given Chess Zero = (λ e. let z : ◌≡◌ {A = ℕ} 0 1 = cc in absurd (omega arith), λ k. absurd (omega (arith, k.1)))
   cp-given Chess One = (λ e. let z : ◌≡◌ {A = ℕ} 0 1 = cc in absurd (omega arith), λ k. let z : ◌≡◌ {A = ℕ} 0 1 = cc in absurd (omega arith))

@@ -4,21 +4,19 @@ use mathlib.Core.Path.{◌≡◌, refl, sym, ap, ◌∙◌}
 use mathlib.Core.Logic.{◌↔◌}
 use mathlib.Core.Bool.{Bool, true, false, true≢false}
 use mathlib.Core.List.{List}
-use Rattle.refusal.specs.Code.{accepted_by, or_else}
-use Rattle.refusal.specs.declared.Refusal.{Refusal}
-use Rattle.refusal.specs.declared.Refusal.TheVariants.{None}
+use Rattle.refusal.specs.Code.{accepted_by, or_else, Verdict, accepted}
 use Rattle.refusal.proofs.Apart.{accepted-none}
 use Rattle.steps.specs.Steps.{Step, refusal_in, first_outside, AllInside, FirstIs}
 use Rattle.steps.proofs.Meaning.{accepted-inside, inside-accepted, first-refused, refused-first}
 
-module _ (early : Refusal) (xs : List Step) where
-  abbrev pub behind : Refusal
+module _ (early : Verdict) (xs : List Step) where
+  abbrev pub behind : Verdict
   behind = or_else early (first_outside xs)
 
   -- the two ways that a call goes
   data Way : Type 0 where
-    stopped : (early ≡ None → ⊥) → behind ≡ early → Way
-    passed : early ≡ None → behind ≡ first_outside xs → Way
+    stopped : (early ≡ accepted → ⊥) → behind ≡ early → Way
+    passed : early ≡ accepted → behind ≡ first_outside xs → Way
 
   way : Way
   way = go (accepted_by early) refl
@@ -27,27 +25,27 @@ module _ (early : Refusal) (xs : List Step) where
       go true e = passed (accepted-none early e) (rw e)
       go false e = stopped (λ n. true≢false (sym (ap accepted_by n) ∙ e)) (rw e)
 
-  pub none-behind : (behind ≡ None) ↔ ((early ≡ None) × AllInside xs)
+  pub none-behind : (behind ≡ accepted) ↔ ((early ≡ accepted) × AllInside xs)
   none-behind = (λ e. to way e, λ k. from way k)
     where
-      to : Way → behind ≡ None → (early ≡ None) × AllInside xs
+      to : Way → behind ≡ accepted → (early ≡ accepted) × AllInside xs
       to (stopped n d) e = absurd (n (sym d ∙ e))
       to (passed h d) e = (h, accepted-inside xs (sym d ∙ e))
 
-      from : Way → (early ≡ None) × AllInside xs → behind ≡ None
+      from : Way → (early ≡ accepted) × AllInside xs → behind ≡ accepted
       from (stopped n d) k = absurd (n k.0)
       from (passed h d) k = d ∙ inside-accepted xs k.1
 
-  module _ (r : Refusal) (some : r ≡ None → ⊥) where
+  module _ (r : Verdict) (some : r ≡ accepted → ⊥) where
     -- a refusal that the tests don't give
-    pub step-behind : (early ≡ r → ⊥) → (behind ≡ r) ↔ ((early ≡ None) × FirstIs xs r)
+    pub step-behind : (early ≡ r → ⊥) → (behind ≡ r) ↔ ((early ≡ accepted) × FirstIs xs r)
     step-behind other = (λ e. to way e, λ k. from way k)
       where
-        to : Way → behind ≡ r → (early ≡ None) × FirstIs xs r
+        to : Way → behind ≡ r → (early ≡ accepted) × FirstIs xs r
         to (stopped n d) e = absurd (other (sym d ∙ e))
         to (passed h d) e = (h, refused-first xs r (sym d ∙ e) some)
 
-        from : Way → (early ≡ None) × FirstIs xs r → behind ≡ r
+        from : Way → (early ≡ accepted) × FirstIs xs r → behind ≡ r
         from (stopped n d) k = absurd (n k.0)
         from (passed h d) k = d ∙ first-refused xs r k.1
 

@@ -6,14 +6,12 @@ use mathlib.Core.List.{List, [], ◌∷◌, ◌++◌}
 use Prim.Native.Nat.{ℕ, zero, suc, ◌+◌, ◌-◌, ◌<◌, ◌≤◌}
 use native.Mathlib.Nat.{not-suc-le-zero, le_of_suc-le-suc}
 use native.Mathlib.Omega.{arith}
-use Rattle.refusal.specs.Code.{or_else}
-use Rattle.refusal.specs.declared.Refusal.{Refusal}
-use Rattle.refusal.specs.declared.Refusal.TheVariants.{None}
+use Rattle.refusal.specs.Code.{or_else, Verdict, accepted}
 use Rattle.util.specs.Sums.{in16}
 use Rattle.refusal.proofs.Order.{or_assoc}
 use Rattle.steps.specs.Steps.{Step, term, sum, value_in, refusal_in, first_outside, steps_from}
 
-or_step : (s : Step) (b : Bool) (r rest : Refusal) → cond b (or_else r rest) (refusal_in s) ≡ or_else (cond b r (refusal_in s)) rest
+or_step : (s : Step) (b : Bool) (r rest : Verdict) → cond b (or_else r rest) (refusal_in s) ≡ or_else (cond b r (refusal_in s)) rest
 or_step s true r rest = refl
 or_step (term t p z) false r rest = refl
 or_step (sum t p z) false r rest = refl
@@ -22,11 +20,11 @@ pub first-append : (xs ys : List Step) → first_outside (xs ++ ys) ≡ or_else 
 unfolding first_outside
 first-append [] ys = refl
 first-append (s ∷ xs) ys =
-    ap (λ (r : Refusal). cond (in16 (value_in s)) r (refusal_in s)) (first-append xs ys)
+    ap (λ (r : Verdict). cond (in16 (value_in s)) r (refusal_in s)) (first-append xs ys)
     ∙ or_step s (in16 (value_in s)) (first_outside xs) (first_outside ys)
 
 -- a loop over pixels: past the last there is nothing, and each turn takes one pixel off, or k of them
-pub steps-end : (f : ℕ → List Step) (n p : ℕ) → n ≡ 0 → first_outside (steps_from f n p) ≡ None
+pub steps-end : (f : ℕ → List Step) (n p : ℕ) → n ≡ 0 → first_outside (steps_from f n p) ≡ accepted
 unfolding steps_from first_outside
 steps-end f n p e = rw e
 
@@ -45,7 +43,7 @@ steps-part f (suc k) (suc n) p h =
     first-append (f p) (steps_from f n (p + 1))
     ∙ (ap (or_else a) (steps-part f k n (p + 1) (le_of_suc-le-suc h))
     ∙ (or_assoc a b (first_outside (steps_from f (n - k) (p + 1 + k)))
-    ∙ (ap (λ (r : Refusal). or_else r (first_outside (steps_from f (n - k) (p + 1 + k)))) (sym (first-append (f p) (steps_from f k (p + 1))))
+    ∙ (ap (λ (r : Verdict). or_else r (first_outside (steps_from f (n - k) (p + 1 + k)))) (sym (first-append (f p) (steps_from f k (p + 1))))
     ∙ rw (e, d))))
 
 pub steps-turn : (f : ℕ → List Step) (n p : ℕ) → 0 < n → first_outside (steps_from f n p) ≡ or_else (first_outside (f p)) (first_outside (steps_from f (n - 1) (p + 1)))

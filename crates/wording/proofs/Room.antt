@@ -1,28 +1,31 @@
 -- Every explanation in words has room in 2,048 bytes: each of its numbers has at most 21 bytes, whatever it is.
 -- Assumes nothing.
 use native.Mathlib.Omega.{arith}
-use mathlib.Core.Bool.{Bool, true, false, cond, not}
-use mathlib.Core.List.{List, [], ◌∷◌, ◌++◌}
+use mathlib.Core.Bool.{Bool, true, false, not}
+use mathlib.Core.List.{List, ◌++◌}
 use Prim.Native.Nat.{ℕ, suc, ◌+◌, ◌-◌, ◌^◌, ◌≤◌}
 use lib.Dec.{leb}
 use lib.IntN.{ℤ, pos, negsuc}
 use lib.ListN.{length, length-append}
+use Rattle.std.specs.Prelude.{Option, None, Some, Result, Ok, Err}
 use Rattle.refusal.specs.Code.{code_of, accepted_by}
+use Rattle.refusal.specs.declared.Refusal.{Refusal}
 use Rattle.refusal.specs.declared.Table.{Table}
 use Rattle.refusal.specs.declared.Table.TheVariants.{Offset, Alpha, Kta}
 use Rattle.util.specs.Pixels.{row, column}
 use Rattle.listing.specs.Text.{ascii}
-use Rattle.listing.specs.Listing.{together, refused_line}
+use Rattle.listing.specs.Listing.{refused_line}
 use Rattle.listing.proofs.Room.{decimal-room, whole_room, refused-room}
 use Rattle.explanation.specs.Explanation.{reached}
 use Rattle.explanation.specs.declared.Part.{Part}
 use Rattle.explanation.specs.declared.Parts.{Parts}
 use Rattle.explanation.specs.declared.Failure.{Failure}
-use Rattle.explanation.specs.declared.Failure.TheVariants.{Nothing, Row, Column, Remainder, Sum}
+use Rattle.explanation.specs.declared.Failure.TheVariants.{Row, Column, Remainder, Sum}
 use Rattle.explanation.specs.declared.Entry.{Entry}
-use Rattle.explanation.specs.declared.Entry.TheVariants.{Absent, Whole, Fraction}
+use Rattle.explanation.specs.declared.Entry.TheVariants.{Whole, Fraction}
 use Rattle.explanation.specs.declared.Explanation.{Explanation}
-use Rattle.wording.specs.Wording.{when, table_name, spread, signed_text, entry_text, number_line, pixel_line, place_text, part_line, sum_line, shared_lines, part_lines, opening, term_text, fitting_text, term_sentence, excess_text, shared_words, sum_sentence, entry_lines, ending, wording}
+use Rattle.wording.specs.Wording.{when, table_name, spread, signed_text, entry_text, number_line, pixel_line, place_text, part_line, sum_line, shared_lines, part_lines}
+use Rattle.wording.specs.Wording.{opening, term_text, fitting_text, term_sentence, excess_text, shared_words, sum_sentence, entry_lines, ending, wording}
 
 when-room : (b : Bool) (t : List ℕ) (k : ℕ) → length t ≤ k → length (when b t) ≤ k
 when-room true t k h = h
@@ -37,10 +40,10 @@ signed-room : (z : ℤ) → length (signed_text z) ≤ 23
 signed-room (pos n) = omega (arith, decimal-room 20 n)
 signed-room (negsuc n) = omega (arith, decimal-room 20 (suc n))
 
-entry-room : (e : Entry) → length (entry_text e) ≤ 21
-entry-room Absent = omega arith
-entry-room (Whole z) = whole_room z
-entry-room (Fraction x) = omega arith
+entry-room : (e : Option Entry) → length (entry_text e) ≤ 21
+entry-room None = omega arith
+entry-room (Some (Whole z)) = whole_room z
+entry-room (Some (Fraction x)) = omega arith
 
 excess-room : (z : ℤ) → length (excess_text z) ≤ 30
 excess-room (pos n) = omega (arith, decimal-room 20 (n - 32767))
@@ -69,7 +72,7 @@ sum_room t x =
     let shared = when-room (spread t) (signed_text x.row.term ++ signed_text x.column.term) 46 both in
     simp length-append (omega (arith, shared, whole_room x.average.term, signed-room x.remainder.term, whole_room x.numerator))
 
-shared-room : (f : Failure) (x : Parts) → length (shared_lines f x) ≤ 418
+shared-room : (f : Option Failure) (x : Parts) → length (shared_lines f x) ≤ 418
 unfolding shared_lines
 shared-room f x =
     let two = number_line (ascii "after_row ") x.after_row ++ part_line (ascii "column") x.column in
@@ -78,7 +81,7 @@ shared-room f x =
     let after = when-room (leb 2 (reached f)) (number_line (ascii "after_column ") x.after_column) 35 (number-room (ascii "after_column ") x.after_column) in
     simp length-append (omega (arith, part_room (ascii "row") x.row, column, after))
 
-parts-room : (f : Failure) (t : Table) (x : Parts) → length (part_lines f t x) ≤ 895
+parts-room : (f : Option Failure) (t : Table) (x : Parts) → length (part_lines f t x) ≤ 895
 unfolding part_lines
 parts-room f t x =
     let shared = when-room (spread t) (shared_lines f x) 418 (shared-room f x) in
@@ -118,18 +121,15 @@ entry-lines-room : (e : Explanation) → length (entry_lines e) ≤ 90
 unfolding entry_lines
 entry-lines-room e = simp length-append (omega (arith, whole_room e.parts.numerator, decimal-room 20 e.exponent, entry-room e.entry))
 
-ending-room : (f : Failure) (e : Explanation) → length (ending f e) ≤ 309
-ending-room Nothing e = omega (arith, entry-lines-room e)
-ending-room Row e = omega (arith, term-room (ascii "row") e.parts.row)
-ending-room Column e = omega (arith, term-room (ascii "column") e.parts.column)
-ending-room Remainder e = omega (arith, term-room (ascii "remainder") e.parts.remainder)
-ending-room Sum e = omega (arith, sum-sentence-room e.table e.parts)
+ending-room : (f : Option Failure) (e : Explanation) → length (ending f e) ≤ 309
+ending-room None e = omega (arith, entry-lines-room e)
+ending-room (Some Row) e = omega (arith, term-room (ascii "row") e.parts.row)
+ending-room (Some Column) e = omega (arith, term-room (ascii "column") e.parts.column)
+ending-room (Some Remainder) e = omega (arith, term-room (ascii "remainder") e.parts.remainder)
+ending-room (Some Sum) e = omega (arith, sum-sentence-room e.table e.parts)
 
 -- ---- the whole
-pub wording-room : (e : Explanation) → length (wording e) ≤ 2048
+pub wording-room : (answer : Result Explanation Refusal) → length (wording answer) ≤ 2048
 unfolding wording
-wording-room e = go (accepted_by e.refusal)
-  where
-    go : (b : Bool) → length (cond b (together (opening e ∷ part_lines e.failure e.table e.parts ∷ ending e.failure e ∷ [])) (refused_line (code_of e.refusal))) ≤ 2048
-    go true = simp length-append (omega (arith, opening-room e, parts-room e.failure e.table e.parts, ending-room e.failure e))
-    go false = omega (arith, refused-room (code_of e.refusal))
+wording-room (Ok e) = simp length-append (omega (arith, opening-room e, parts-room e.failure e.table e.parts, ending-room e.failure e))
+wording-room (Err r) = omega (arith, refused-room (code_of (Err r)))

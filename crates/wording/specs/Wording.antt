@@ -1,8 +1,9 @@
 -- An explanation in words: lines that a person reads and a script can. Names, then numbers in decimal, addresses in hexadecimal, a fraction as eight hexadecimal digits of its bits;
 -- the sum written out; and, beside a failure, a sentence on what failed, where its bits stand and what would fit. proofs/Fitting.antt shows that exactly that would fit.
 -- Assumes nothing.
-use Rattle.std.specs.Prelude.{ℕ, suc, ◌-◌, ◌/◌, ◌%◌, ◌^◌, Bool, true, false, cond, not, List, [], ◌∷◌, ◌++◌, map, leb, ℤ, pos, negsuc}
+use Rattle.std.specs.Prelude.{ℕ, suc, ◌-◌, ◌/◌, ◌%◌, ◌^◌, Bool, true, false, cond, not, List, [], ◌∷◌, ◌++◌, map, leb, ℤ, pos, negsuc, Option, None, Some, Result, Ok, Err}
 use Rattle.refusal.specs.Code.{code_of, accepted_by}
+use Rattle.refusal.specs.declared.Refusal.{Refusal}
 use Rattle.refusal.specs.declared.Table.{Table}
 use Rattle.refusal.specs.declared.Table.TheVariants.{Offset, Alpha, Kta}
 use Rattle.util.specs.Pixels.{row, column}
@@ -12,9 +13,9 @@ use Rattle.explanation.specs.Explanation.{reached}
 use Rattle.explanation.specs.declared.Part.{Part}
 use Rattle.explanation.specs.declared.Parts.{Parts}
 use Rattle.explanation.specs.declared.Failure.{Failure}
-use Rattle.explanation.specs.declared.Failure.TheVariants.{Nothing, Row, Column, Remainder, Sum}
+use Rattle.explanation.specs.declared.Failure.TheVariants.{Row, Column, Remainder, Sum}
 use Rattle.explanation.specs.declared.Entry.{Entry}
-use Rattle.explanation.specs.declared.Entry.TheVariants.{Absent, Whole, Fraction}
+use Rattle.explanation.specs.declared.Entry.TheVariants.{Whole, Fraction}
 use Rattle.explanation.specs.declared.Explanation.{Explanation}
 
 -- a text, or nothing
@@ -45,10 +46,10 @@ abbrev pub signed_text : ℤ → List ℕ
 signed_text (pos n) = ascii " + " ++ decimal_text n
 signed_text (negsuc n) = ascii " - " ++ decimal_text (suc n)
 
-abbrev pub entry_text : Entry → List ℕ
-entry_text Absent = ascii "none"
-entry_text (Whole z) = whole_text z
-entry_text (Fraction x) = float_text x
+abbrev pub entry_text : Option Entry → List ℕ
+entry_text None = ascii "none"
+entry_text (Some (Whole z)) = whole_text z
+entry_text (Some (Fraction x)) = float_text x
 
 -- ---- lines
 abbrev pub number_line : List ℕ → ℤ → List ℕ
@@ -76,7 +77,7 @@ sum_line t x =
     )
 
 -- what comes of a row and a column, up to the failure
-unfoldable pub shared_lines : Failure → Parts → List ℕ
+unfoldable pub shared_lines : Option Failure → Parts → List ℕ
 shared_lines f x =
     together (
     part_line (ascii "row") x.row
@@ -85,7 +86,7 @@ shared_lines f x =
     ∷ []
     )
 
-unfoldable pub part_lines : Failure → Table → Parts → List ℕ
+unfoldable pub part_lines : Option Failure → Table → Parts → List ℕ
 part_lines f t x =
     together (
     part_line (ascii "average") x.average
@@ -142,16 +143,14 @@ entry_lines e =
     ascii "numerator " ∷ whole_text e.parts.numerator ∷ ascii "\nexponent " ∷ decimal_text e.exponent ∷ ascii "\nentry " ∷ entry_text e.entry ∷ ascii "\n" ∷ []
     )
 
-abbrev pub ending : Failure → Explanation → List ℕ
-ending Nothing e = entry_lines e
-ending Row e = term_sentence (ascii "row") e.parts.row
-ending Column e = term_sentence (ascii "column") e.parts.column
-ending Remainder e = term_sentence (ascii "remainder") e.parts.remainder
-ending Sum e = sum_sentence e.table e.parts
+abbrev pub ending : Option Failure → Explanation → List ℕ
+ending None e = entry_lines e
+ending (Some Row) e = term_sentence (ascii "row") e.parts.row
+ending (Some Column) e = term_sentence (ascii "column") e.parts.column
+ending (Some Remainder) e = term_sentence (ascii "remainder") e.parts.remainder
+ending (Some Sum) e = sum_sentence e.table e.parts
 
 -- ---- the whole; a refused call has one line, as caldump prints it
-unfoldable pub wording : Explanation → List ℕ
-wording e =
-    cond (accepted_by e.refusal)
-    (together (opening e ∷ part_lines e.failure e.table e.parts ∷ ending e.failure e ∷ []))
-    (refused_line (code_of e.refusal))
+unfoldable pub wording : Result Explanation Refusal → List ℕ
+wording (Ok e) = together (opening e ∷ part_lines e.failure e.table e.parts ∷ ending e.failure e ∷ [])
+wording (Err r) = refused_line (code_of (Err r))

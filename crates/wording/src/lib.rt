@@ -15,38 +15,36 @@ ghost use Rattle.wording.specs.Wording as wording;
 use explanation::{Explanation, Failure, explain};
 use lines::{put_opening, put_part_lines};
 use listing::put_refused;
-use refusal::{accepted, code_of};
+use refusal::{Refusal, code_of};
 use sentences::{put_entry_lines, put_sum_sentence, put_term_sentence};
 
 // What comes last: the entry, or the sentence on what failed.
 fn put_ending(out: &mut [u8], at: usize, e: Explanation) -> usize
     ensures { (out.new, result) ≡ typed (wording.ending e.failure e) (out.old, at) }
 {
-    let failure = e.failure;
     let table = e.table;
     let parts = e.parts;
-    match failure {
-        Failure::Nothing => put_entry_lines(out, at, e),
-        Failure::Row => put_term_sentence(out, at, b"row", parts.row),
-        Failure::Column => put_term_sentence(out, at, b"column", parts.column),
-        Failure::Remainder => put_term_sentence(out, at, b"remainder", parts.remainder),
-        Failure::Sum => put_sum_sentence(out, at, table, parts),
+    match e.failure {
+        None => put_entry_lines(out, at, e),
+        Some(Failure::Row) => put_term_sentence(out, at, b"row", parts.row),
+        Some(Failure::Column) => put_term_sentence(out, at, b"column", parts.column),
+        Some(Failure::Remainder) => put_term_sentence(out, at, b"remainder", parts.remainder),
+        Some(Failure::Sum) => put_sum_sentence(out, at, table, parts),
     }
 }
 
-// An explanation from the buffer's start on, and how many bytes of it there are.
-fn put_explanation(e: Explanation, out: &mut [u8]) -> usize
-    ensures { (out.new, result) ≡ typed (wording.wording e) (out.old, 0) }
+// An answer from the buffer's start on, and how many bytes of it there are.
+#[tactic(auto, unfolding(crate::specs::Wording::wording))]
+fn put_explanation(answer: Result<Explanation, Refusal>, out: &mut [u8]) -> usize
+    ensures { (out.new, result) ≡ typed (wording.wording answer) (out.old, 0) }
 {
-    let refusal = e.refusal;
-    let failure = e.failure;
-    let table = e.table;
-    if accepted(refusal) {
-        let a = put_opening(out, 0, e);
-        let b = put_part_lines(out, a, failure, table, e.parts);
-        put_ending(out, b, e)
-    } else {
-        put_refused(out, 0, code_of(refusal))
+    match answer {
+        Ok(e) => {
+            let a = put_opening(out, 0, e);
+            let b = put_part_lines(out, a, e.failure, e.table, e.parts);
+            put_ending(out, b, e)
+        }
+        Err(refusal) => put_refused(out, 0, code_of(Err(refusal))),
     }
 }
 

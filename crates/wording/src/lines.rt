@@ -10,7 +10,7 @@ ghost use Rattle.wording.specs.Wording.{when, spread, signed_text, number_line, 
 use crate::words::{is_spread, put_address, put_bits, put_signed, put_table_name};
 use explanation::{Explanation, Failure, Part, Parts, reached_by};
 use listing::{put_byte, put_decimal, put_integer, put_refused, put_text, put_whole};
-use refusal::{Refusal, Table, accepted, code_of};
+use refusal::{Table, Verdict, code_of};
 
 // A line with one number.
 fn put_number_line(out: &mut [u8], at: usize, name: &[u8], z: i32) -> usize
@@ -62,6 +62,7 @@ fn put_part(out: &mut [u8], at: usize, name: &[u8], part: Part) -> usize
 }
 
 // The row's and the column's term in a sum, where a table has them.
+#[tactic(auto, using(listing::proofs::Typing::done))]
 fn put_shared_terms(given: bool, out: &mut [u8], at: usize, parts: Parts) -> usize
     ensures { (out.new, result) ≡ typed (when given (signed_text parts.row.term ++ signed_text parts.column.term)) (out.old, at) }
 {
@@ -74,6 +75,7 @@ fn put_shared_terms(given: bool, out: &mut [u8], at: usize, parts: Parts) -> usi
 }
 
 // The sum written out, where it is reached.
+#[tactic(auto, using(listing::proofs::Typing::done))]
 fn put_sum(given: bool, out: &mut [u8], at: usize, table: Table, parts: Parts) -> usize
     ensures { (out.new, result) ≡ typed (when given (sum_line table parts)) (out.old, at) }
 {
@@ -90,6 +92,7 @@ fn put_sum(given: bool, out: &mut [u8], at: usize, table: Table, parts: Parts) -
 }
 
 // The sum after the row, and the column, where they are reached.
+#[tactic(auto, using(listing::proofs::Typing::done))]
 fn put_column(given: bool, out: &mut [u8], at: usize, parts: Parts) -> usize
     ensures { (out.new, result) ≡ typed (when given (number_line (ascii "after_row ") parts.after_row ++ part_line (ascii "column") parts.column)) (out.old, at) }
 {
@@ -102,6 +105,8 @@ fn put_column(given: bool, out: &mut [u8], at: usize, parts: Parts) -> usize
 }
 
 // The sum after the column, where it is reached.
+// A flag and no Option: the part is there in any case, and the flag says whether it is shown. A closure for the line would need a contract on the buffer.
+#[tactic(auto, using(listing::proofs::Typing::done))]
 fn put_after_column(given: bool, out: &mut [u8], at: usize, z: i32) -> usize
     ensures { (out.new, result) ≡ typed (when given (number_line (ascii "after_column ") z)) (out.old, at) }
 {
@@ -113,7 +118,14 @@ fn put_after_column(given: bool, out: &mut [u8], at: usize, z: i32) -> usize
 }
 
 // The row and the column, where a table has them, as far as they are reached.
-fn put_shared(given: bool, out: &mut [u8], at: usize, failure: Failure, parts: Parts) -> usize
+#[tactic(auto, using(listing::proofs::Typing::done))]
+fn put_shared(
+    given: bool,
+    out: &mut [u8],
+    at: usize,
+    failure: Option<Failure>,
+    parts: Parts,
+) -> usize
     ensures { (out.new, result) ≡ typed (when given (shared_lines failure parts)) (out.old, at) }
 {
     if !given {
@@ -126,6 +138,7 @@ fn put_shared(given: bool, out: &mut [u8], at: usize, failure: Failure, parts: P
 }
 
 // The remainder, where it is reached.
+#[tactic(auto, using(listing::proofs::Typing::done))]
 fn put_remainder(given: bool, out: &mut [u8], at: usize, part: Part) -> usize
     ensures { (out.new, result) ≡ typed (when given (part_line (ascii "remainder") part)) (out.old, at) }
 {
@@ -140,7 +153,7 @@ fn put_remainder(given: bool, out: &mut [u8], at: usize, part: Part) -> usize
 pub(crate) fn put_part_lines(
     out: &mut [u8],
     at: usize,
-    failure: Failure,
+    failure: Option<Failure>,
     table: Table,
     parts: Parts,
 ) -> usize
@@ -154,13 +167,13 @@ pub(crate) fn put_part_lines(
 }
 
 // The line of the decoder's refusal, where there is one.
-fn put_found(out: &mut [u8], at: usize, found: Refusal) -> usize
+#[tactic(auto, using(listing::proofs::Typing::done))]
+fn put_found(out: &mut [u8], at: usize, found: Verdict) -> usize
     ensures { (out.new, result) ≡ typed (when (not (accepted_by found)) (refused_line (code_of found))) (out.old, at) }
 {
-    if accepted(found) {
-        at
-    } else {
-        put_refused(out, at, code_of(found))
+    match found {
+        Ok(()) => at,
+        Err(_) => put_refused(out, at, code_of(found)),
     }
 }
 
@@ -168,11 +181,9 @@ fn put_found(out: &mut [u8], at: usize, found: Refusal) -> usize
 pub(crate) fn put_opening(out: &mut [u8], at: usize, e: Explanation) -> usize
     ensures { (out.new, result) ≡ typed (opening e) (out.old, at) }
 {
-    let found = e.found;
-    let table = e.table;
-    let a = put_found(out, at, found);
+    let a = put_found(out, at, e.found);
     let b = put_text(out, a, b"table ");
-    let c = put_table_name(out, b, table);
+    let c = put_table_name(out, b, e.table);
     let d = put_byte(out, c, b'\n');
     put_pixel_line(out, d, e.pixel)
 }

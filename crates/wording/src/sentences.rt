@@ -48,6 +48,7 @@ pub(crate) fn put_term_sentence(out: &mut [u8], at: usize, name: &[u8], part: Pa
 }
 
 // The words of the row and the column, where a table has them.
+#[tactic(auto, using(listing::proofs::Typing::done))]
 fn put_shared_words(given: bool, out: &mut [u8], at: usize, parts: Parts) -> usize
     ensures { (out.new, result) ≡ typed (when given (shared_words parts)) (out.old, at) }
 {
@@ -84,12 +85,11 @@ pub(crate) fn put_sum_sentence(out: &mut [u8], at: usize, table: Table, parts: P
 pub(crate) fn put_entry_lines(out: &mut [u8], at: usize, e: Explanation) -> usize
     ensures { (out.new, result) ≡ typed (entry_lines e) (out.old, at) }
 {
-    let entry = e.entry;
     let a = put_text(out, at, b"numerator ");
     let b = put_integer(out, a, e.parts.numerator);
     let c = put_text(out, b, b"\nexponent ");
     let d = put_decimal(out, c, e.exponent as u64);
     let f = put_text(out, d, b"\nentry ");
-    let g = put_entry(out, f, entry);
+    let g = put_entry(out, f, e.entry);
     put_byte(out, g, b'\n')
 }

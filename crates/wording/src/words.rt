@@ -24,8 +24,7 @@ pub(crate) fn is_spread(table: Table) -> bool
     ensures { result ≡ spread table }
 {
     match table {
-        Table::Offset => true,
-        Table::Alpha => true,
+        Table::Offset | Table::Alpha => true,
         Table::Kta => false,
     }
 }
@@ -66,13 +65,13 @@ pub(crate) fn put_signed(out: &mut [u8], at: usize, z: i32) -> usize
 }
 
 // An entry.
-pub(crate) fn put_entry(out: &mut [u8], at: usize, entry: Entry) -> usize
+pub(crate) fn put_entry(out: &mut [u8], at: usize, entry: Option<Entry>) -> usize
     ensures { (out.new, result) ≡ typed (entry_text entry) (out.old, at) }
 {
     match entry {
-        Entry::Absent => put_text(out, at, b"none"),
-        Entry::Whole(z) => put_whole(out, at, z),
-        Entry::Fraction(x) => put_float(out, at, x),
+        None => put_text(out, at, b"none"),
+        Some(Entry::Whole(z)) => put_whole(out, at, z),
+        Some(Entry::Fraction(x)) => put_float(out, at, x),
     }
 }
 
@@ -80,7 +79,7 @@ pub(crate) fn put_entry(out: &mut [u8], at: usize, entry: Entry) -> usize
 fn above(most: u32, n: u32) -> u32
     ensures { result ≡ n - most }
 {
-    if most < n { n - most } else { 0 }
+    n.saturating_sub(most)
 }
 
 // By how much a sum is too high or too low.

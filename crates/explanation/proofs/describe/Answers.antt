@@ -1,13 +1,11 @@
 -- The parts are the pixel's, and everything else hangs on them.
-use Rattle.std.proofs.Common.{◌≡◌, sym, ap, rules, ◌∙◌}
+use Rattle.std.proofs.Common.{◌≡◌, None, Some, sym, ap, rules, ◌∙◌}
 use mir.Syntax.{w32}
 use mir.Val.{to_z, of_z}
-use Rattle.refusal.specs.declared.Refusal.TheVariants.{None}
 use Rattle.util.specs.Words.{listed}
 use Rattle.explanation.specs.Explanation.{parts_in, exponent_in, entry_in, failure_in, up_to, cut_parts}
 use Rattle.explanation.specs.Inner.From.{failure_from, entry_from}
 use Rattle.explanation.specs.declared.Entry.{Entry}
-use Rattle.explanation.specs.declared.Entry.TheVariants.{Absent}
 use Rattle.explanation.proofs.From.{failure-from, entry-from, sum_inside}
 use Rattle.explanation.proofs.describe.Goals as goal
 
@@ -27,11 +25,10 @@ returns c =
     let parts : x ≡ parts_in w t p = c.parts_of-parts.ensures.value in
     let exponent : c.exponent_in-exponent.result ≡ exponent_in w t = c.exponent_in-exponent.ensures.value in
     let failure : c.failure_of-failure.result ≡ failure_in w t p = c.failure_of-failure.ensures ∙ (ap (failure_from t) parts ∙ failure-from w t p) in
-    let entry : c.entry_up_to-entry.result ≡ up_to 4 (failure_in w t p) (entry_in w t p) Absent =
+    let entry : c.entry_up_to-entry.result ≡ up_to 4 (failure_in w t p) (Some (entry_in w t p)) None =
     rw numerator at c.entry_up_to-entry.ensures
-    ∙ ((λ i. up_to 4 (failure i) (entry_from t (parts i).numerator (exponent i)) Absent) ∙ ap (λ (x : Entry). up_to 4 (failure_in w t p) x Absent) (entry-from w t p)) in
+    ∙ ((λ i. up_to 4 (failure i) (Some (entry_from t (parts i).numerator (exponent i))) None) ∙ ap (λ (x : Entry). up_to 4 (failure_in w t p) (Some x) None) (entry-from w t p)) in
     λ i. record {
-      refusal = None;
       found = c.args.found;
       table = t;
       pixel = p;

@@ -1,6 +1,6 @@
 -- What fails in a table, and its entry, from the parts. proofs/From.antt shows that they are what the walk's steps and the tables give.
 -- Assumes nothing.
-use Rattle.std.specs.Prelude.{ℕ, [], ◌∷◌, ℤ, pos}
+use Rattle.std.specs.Prelude.{ℕ, [], ◌∷◌, ℤ, pos, Option}
 use Rattle.exact.specs.Dyadic.{dyadic}
 use Rattle.refusal.specs.declared.Table.{Table}
 use Rattle.refusal.specs.declared.Table.TheVariants.{Offset, Alpha, Kta}
@@ -16,7 +16,7 @@ tested_sum Offset z = z
 tested_sum Alpha z = pos 0
 tested_sum Kta z = z
 
-abbrev pub failure_from : Table → Parts → Failure
+abbrev pub failure_from : Table → Parts → Option Failure
 failure_from t x = first_named (step_names Offset) (x.row.term ∷ x.column.term ∷ x.remainder.term ∷ tested_sum t x.numerator ∷ [])
 
 abbrev pub entry_from : Table → ℤ → ℕ → Entry

@@ -6,19 +6,19 @@ use Rattle.gathering.specs.Inner.Marks.{marked_as}
 use Rattle.gathering.proofs.count_marked.Goals as goal
 use Rattle.gathering.proofs.count_marked.Goals.{then-read_mark-mark, else-read_mark-mark}
 
-pub loop-w-init : goal.loop-w-init
-loop-w-init c = (omega arith, sym (count_none (marked_as c.args.mark c.args.marks.now)))
+pub loop-stored-init : goal.loop-stored-init
+loop-stored-init c = sym (count_none (marked_as c.args.mark c.args.marks.now))
 
 pub overflow_add-n : goal.overflow_add-n
-overflow_add-n c = record { fits = omega (arith, count-le c.loop-w.w (marked_as c.args.mark c.args.marks.now)) }
+overflow_add-n c = record { fits = omega (arith, count-le c.loop-stored.stored-index (marked_as c.args.mark c.args.marks.now)) }
 
-pub loop-w-preserved : goal.loop-w-preserved
-loop-w-preserved c =
+pub loop-stored-preserved : goal.loop-stored-preserved
+loop-stored-preserved c =
     let q = marked_as c.args.mark c.args.marks.now in
-    let w = c.loop-w.w in
-    let was = c.loop-w.invariant.1 in
+    let w = c.loop-stored.stored-index in
+    let was = c.loop-stored.invariant in
     let read = c.read_mark.ensures 0 in
     elim c.if-read_mark-mark.branch [
-      | then-read_mark-mark t ↦ (omega arith, t.n-is ∙ ap (λ (n : ℕ). n + 1) was ∙ sym (count_yes w q (eq-eqb _ _ (sym read ∙ t.if-read_mark-mark.true))))
-      | else-read_mark-mark t ↦ (omega arith, t.n-is ∙ was ∙ sym (count_no w q (ne_eqb _ _ (λ e. t.if-read_mark-mark.false (read ∙ e)))))
+      | then-read_mark-mark t ↦ t.n-is ∙ ap (λ (n : ℕ). n + 1) was ∙ sym (count_yes w q (eq-eqb _ _ (sym read ∙ t.if-read_mark-mark.true)))
+      | else-read_mark-mark t ↦ t.n-is ∙ was ∙ sym (count_no w q (ne_eqb _ _ (λ e. t.if-read_mark-mark.false (read ∙ e))))
     ]

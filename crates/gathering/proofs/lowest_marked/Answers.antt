@@ -1,5 +1,5 @@
 -- The first place that is read as this mark is the lowest, and past the last there is none.
-use Rattle.std.proofs.Common.{◌≡◌, sym, length, arith, ◌∙◌}
+use Rattle.std.proofs.Common.{sym, length, arith, ◌∙◌}
 use borrow.Author.Tests.{eq-eqb}
 use Rattle.util.proofs.Lists.{lowest-at, lowest-none}
 use Rattle.gathering.specs.Inner.Marks.{marked_as}
@@ -13,5 +13,4 @@ returns-then-read_mark-mark c =
 pub returns : goal.returns
 returns c =
     let marks = c.args.marks.now in
-    let end : c.loop-w.w ≡ length marks = omega arith in
-    end ∙ sym (lowest-none (length marks) (marked_as c.args.mark marks) (λ k l. c.loop-w.invariant.1 k (omega arith)))
+    sym (lowest-none (length marks) (marked_as c.args.mark marks) (λ k l. c.loop-w.invariant.1 k (omega arith)))

@@ -11,7 +11,7 @@ zeros = replicate 1664 0
 
 pub returns : goal.returns
 returns c =
-    let vs = c.args.self.values in
+    let vs = c.args.self.now.values in
     let n : length vs ≡ 832 = search rules in
     let long : length zeros ≡ length (bytes_of vs) = omega (arith, length-bytes vs) in
     c.put_words.ensures ∙ sets-whole zeros (bytes_of vs) long

@@ -13,7 +13,7 @@ abbrev both : Gathering → Gathering → ℕ → Cell
 both a b w = joined (cell_at a w) (cell_at b w)
 
 pub loop-w-init : goal.loop-w-init
-loop-w-init c = (omega arith, partly_none (both c.args.self c.args.other) c.args.self)
+loop-w-init c = partly_none (both c.args.self c.args.other) c.args.self
 
 pub loop-w-preserved : goal.loop-w-preserved
 loop-w-preserved c =
@@ -21,18 +21,16 @@ loop-w-preserved c =
     let k = c.args.other in
     let f = both g k in
     let w = c.loop-w.w in
-    let was = c.loop-w.invariant.1 in
+    let was = c.loop-w.invariant in
     let turn = ap (λ (a : Cell). joined a (cell_at k w)) (partly-read f g w c.loop-w.g was) in
-    let mark = c.joined_mark-both in (
-      omega arith,
-      partly-step f g w c.loop-w.g was (search rules) (search rules) c.joined_value.result mark.result
-          (c.joined_value.ensures (get_or k.marks w 0) mark.ensures ∙ ap value_of turn)
-          (mark.ensures ∙ ap mark_of turn),
-    )
+    let mark = c.joined_mark-both in
+    partly-step f g w c.loop-w.g was (search rules) (search rules) c.joined_value.result mark.result
+    (c.joined_value.ensures (get_or k.marks w 0) mark.ensures ∙ ap value_of turn)
+    (mark.ensures ∙ ap mark_of turn)
 
 pub returns-clause-value : goal.returns-clause-value
 returns-clause-value c =
-    let g = c.args.self in partly-end (both g c.args.other) g c.loop-w.w c.loop-w.g c.loop-w.invariant.1 (omega arith) (search rules) (search rules)
+    let g = c.args.self in partly-end (both g c.args.other) g c.loop-w.w c.loop-w.g c.loop-w.invariant (omega arith) (search rules) (search rules)
 
 pub returns-clause-state_of : goal.returns-clause-state_of
 returns-clause-state_of c h k s t = subst (StateOf (h ++ k)) (sym (returns-clause-value c)) (merge-is h k c.args.self c.args.other s t)

@@ -1,12 +1,9 @@
 -- After w turns the first w words say what the two states say together.
-use Rattle.std.proofs.Common.{◌≡◌, ◌-◌, ◌≤◌}
+use Rattle.std.proofs.Common.{◌≡◌}
 use Rattle.gathering.specs.Cells.{joined}
 use Rattle.gathering.specs.State.{cell_at}
 use Rattle.gathering.proofs.State.{partly}
 use Rattle.gathering.proofs.Gathering.merge.Given as goal
 
 abbrev pub invariant-loop-w : goal.invariant-loop-w
-invariant-loop-w l = (l.w ≤ 832) × (l.g ≡ partly l.w (λ w. joined (cell_at l.fn.self w) (cell_at l.other w)) l.fn.self)
-
-abbrev pub decreases-loop-w : goal.decreases-loop-w
-decreases-loop-w l = 832 - l.w
+invariant-loop-w l = l.g ≡ partly l.w (λ w. joined (cell_at l.fn.self w) (cell_at l.other w)) l.fn.self

@@ -4,9 +4,6 @@ use Rattle.wording.specs.Wording.{sum_line}
 use Rattle.listing.proofs.Typing.{then, done}
 use Rattle.wording.proofs.lines.put_sum.Goals as goal
 
-pub returns-then-not-given : goal.returns-then-not-given
-returns-then-not-given c = rw c.if-not-given.true (done _)
-
 pub returns : goal.returns
 unfolding sum_line
 returns c =

@@ -2,9 +2,6 @@
 use Rattle.listing.proofs.Typing.{then, done}
 use Rattle.wording.proofs.sentences.put_shared_words.Goals as goal
 
-pub returns-then-not-given : goal.returns-then-not-given
-returns-then-not-given c = rw c.if-not-given.true (done _)
-
 pub returns : goal.returns
 returns c =
     rw c.if-not-given.false

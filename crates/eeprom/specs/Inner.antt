@@ -1,2 +1,0 @@
--- What the contracts of inner functions alone cite: no promise to a user of the library rests on it.
-pub mod Pairs
