@@ -1,56 +1,22 @@
 // An explanation of a number of the image. The 76 bytes of which a slice is lent are A5 before the call, so that a refused call that writes shows.
-ghost use Rattle.std.specs.Prelude.{◌≤◌};
-
 use crate::lent::Lent;
-use crate::say::{answer, hex, text};
+use crate::say::answer;
 use mofuleka::mofuleka_explain;
-use script::{front, number};
+use script::Row;
 use std::io::Result;
 use util::word;
 
-// The answer, and the bytes after it.
-#[derive(Clone, Copy)]
-struct Told {
-    word: u64,
-    out: [u8; 76],
-}
-
-// How many of the bytes are lent.
-fn lent_bytes(n: u16) -> usize
-    ensures { result ≤ 76 }
-{
-    if n < 76 { n as usize } else { 76 }
-}
-
-// Asks for a pixel of a table.
-fn told_of(image: &[u8], table: u32, pixel: usize, room: u16) -> Told {
+// Asks, and prints the answer, all that the slice then holds, and what follows it.
+pub fn explained(rt: &impl Print, lent: &Lent, row: Row<'_>) -> Result<()> {
     let mut out = [0xA5u8; 76];
-    let n = lent_bytes(room);
-    let word = mofuleka_explain(image, table, pixel, &mut out[..n]);
-    Told { word, out }
-}
-
-// All that the slice holds, and what follows it.
-fn shown(rt: &impl Print, out: &[u8]) -> Result<()> {
-    text(rt, b"  explanation")?;
-    let mut i = 0;
-    while i < 38 {
-        hex(rt, word(out, i) as u64, 4)?;
-        i += 1;
+    let n = (row.number(3) as usize).min(76);
+    let table = row.number(1) as u32;
+    let pixel = row.number(2) as usize;
+    let found = mofuleka_explain(lent.image(), table, pixel, &mut out[..n]);
+    answer(rt, row, found)?;
+    print!(rt; "  explanation")?;
+    for i in 0..38 {
+        print!(rt; " {:04x}", word(&out, i))?;
     }
-    text(rt, b"\n")
-}
-
-// Asks, and prints the answer and what the slice then holds.
-pub fn explained(rt: &impl Print, what: &[u8], lent: Lent, row: &[u8]) -> Result<()> {
-    let bytes = lent.source(0);
-    let told = told_of(
-        front(&bytes, lent.source_length(0)),
-        number(row, 1) as u32,
-        number(row, 2) as usize,
-        number(row, 3),
-    );
-    let out = told.out;
-    answer(rt, what, told.word)?;
-    shown(rt, front(&out, 76))
+    println!(rt)
 }

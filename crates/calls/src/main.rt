@@ -14,12 +14,11 @@ mod rows;
 mod say;
 mod sizes;
 
-use input::fill;
 use rows::all_rows;
+use script::read_table;
 use std::io::Result;
 
 fn main(rt: HostRuntime) -> Result<()> {
-    let mut space = [0u8; 65536];
-    let count = fill(&mut rt.stdin(), &mut space).count;
-    all_rows(&rt, &space[..count])
+    let table = read_table(rt.alloc(), rt.stdin())?;
+    all_rows(&rt, table.as_slice())
 }

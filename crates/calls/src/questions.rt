@@ -6,14 +6,14 @@ use mofuleka::{
     mofuleka_pixel_in_subpage, mofuleka_pixel_range, mofuleka_pixel_range_count,
     mofuleka_resolution_correction,
 };
-use script::{front, letter, number};
+use script::Row;
 
 // The answer to a question about the camera, with its numbers in the order of the call.
-fn camera_answer(row: &[u8]) -> u64 {
-    let a = number(row, 1) as u32;
-    let b = number(row, 2) as u32;
-    let n = number(row, 3) as usize;
-    match letter(row, 0) {
+fn camera_answer(row: Row<'_>) -> u64 {
+    let a = row.number(1) as u32;
+    let b = row.number(2) as u32;
+    let n = row.number(3) as usize;
+    match row.letter(0) {
         b'm' => mofuleka_pixel_in_subpage(a, b, n),
         b'n' => mofuleka_pixel_range_count(a),
         b'r' => mofuleka_pixel_range(a, b, n),
@@ -22,18 +22,12 @@ fn camera_answer(row: &[u8]) -> u64 {
     }
 }
 
-// How many bytes of the record are lent: all where the number is 0, and else too few.
-fn count_of(short: u16) -> usize {
-    if short == 0 { 122 } else { 121 }
-}
-
-// The answer to a question to the record, or about the camera.
-pub fn record_answer(lent: Lent, row: &[u8]) -> u64 {
-    let record = lent.record;
-    let bytes = front(&record, count_of(number(row, 1)));
-    let a = number(row, 2) as u32;
-    let b = number(row, 3) as u32;
-    match letter(row, 0) {
+// The answer to a question to the record, of which a byte is missing where the first number is not 0, or about the camera.
+pub fn record_answer(lent: &Lent, row: Row<'_>) -> u64 {
+    let bytes = lent.record(row.number(1) != 0);
+    let a = row.number(2) as u32;
+    let b = row.number(3) as u32;
+    match row.letter(0) {
         b'k' => mofuleka_k_v_pixel(bytes, b as usize),
         b'c' => mofuleka_interleave_correction_pixel(bytes, a, b as usize),
         b'p' => mofuleka_interleave_correction_cp(bytes, a, b),

@@ -1,11 +1,10 @@
 // The sizes.
-use crate::say::{decimal, text};
 use mofuleka::{
     mofuleka_alpha_table_bytes, mofuleka_explanation_bytes, mofuleka_gathering_bytes,
     mofuleka_image_bytes, mofuleka_k_ta_table_bytes, mofuleka_offset_table_bytes,
     mofuleka_pixel_bytes, mofuleka_record_bytes,
 };
-use script::number;
+use script::Row;
 use std::io::Result;
 
 // Size n of the interface.
@@ -22,9 +21,7 @@ fn size_at(n: u16) -> usize {
     }
 }
 
-pub fn size(rt: &impl Print, what: &[u8], row: &[u8]) -> Result<()> {
-    text(rt, what)?;
-    text(rt, b": ")?;
-    decimal(rt, size_at(number(row, 1)) as u64)?;
-    text(rt, b"\n")
+pub fn size(rt: &impl Print, row: Row<'_>) -> Result<()> {
+    rt.write_all(row.text())?;
+    println!(rt; ": {}", size_at(row.number(1)))
 }

@@ -3,21 +3,23 @@
 
 #![tactic(auto)]
 
-ghost use Rattle.std.specs.Prelude.{◌≡◌, ◌<◌, length, take, drop};
+ghost use Rattle.std.specs.Prelude.{◌≡◌, ◌<◌, IfOk, length, take, drop};
 ghost use Rattle.io.specs.Counts.{IsPrefixLen};
 ghost use Rattle.explanation.specs.Explanation.{explanation_of};
 ghost use Rattle.wording.specs.Wording.{wording};
 ghost use Rattle.page.specs.Page.{image_in};
 
-use asking::Asked;
-use input::{Input, fill};
+use asking::{pixel, table};
+use input::fill;
 use page::image_length;
 use std::env::{Env, FillError};
+use std::io;
 use std::io::Read;
 use std::process::ExitCode;
 use wording::explain_image;
 
 // The explanation of a pixel of the image that an input stands for.
+#[tactic(auto, unfolding(page::specs::Page::image_in))]
 fn explain_input(input: &[u8], table: u32, p: usize, out: &mut [u8; 2048]) -> usize
     ensures prefix_len { IsPrefixLen result out.new }
     ensures out_after { take result out.new ≡ wording (explanation_of (image_in input.now) table p) }
@@ -28,29 +30,20 @@ fn explain_input(input: &[u8], table: u32, p: usize, out: &mut [u8; 2048]) -> us
 }
 
 // Reads an input into a buffer with room for more than a page: what fills it is longer than a page, and the rest of it need not be read.
-fn read_input<R: Read>(reader: &mut R, buffer: &mut [u8]) -> Input
+fn read_input<R: Read>(reader: &mut R, buffer: &mut [u8]) -> io::Result<usize>
     requires { 2048 < length buffer.old }
-    ensures { IsPrefixLen result.count buffer.new }
+    ensures { IfOk result (λ count. IsPrefixLen count buffer.new) }
 {
     fill(reader, buffer)
 }
 
-// The table that the first argument asks for. No argument of more than 64 bytes names one.
-fn asked_table(rt: &impl Env) -> Asked {
+// What an argument asks for, as its bytes are read. None of more than 64 bytes asks for anything.
+fn asked<F: FnOnce(&[u8]) -> Option<u32>>(rt: &impl Env, i: usize, read: F) -> Option<u32>
+    requires { F.IsAlwaysCallable read }
+{
     let mut text = [0; 64];
-    match rt.arg(1, &mut text) {
-        Ok(count) => asking::table(&text[..count]),
-        Err(_) => asking::table(b""),
-    }
-}
-
-// The pixel that the second asks for.
-fn asked_pixel(rt: &impl Env) -> Asked {
-    let mut text = [0; 64];
-    match rt.arg(2, &mut text) {
-        Ok(count) => asking::pixel(&text[..count]),
-        Err(_) => asking::pixel(b""),
-    }
+    let count = rt.arg(i, &mut text).ok()?;
+    read(&text[..count])
 }
 
 // Whether there are no arguments behind these two.
@@ -69,12 +62,10 @@ fn say_usage(rt: &impl Eprint) {
 // Reads the image and prints.
 fn answer(rt: &HostRuntime, table: u32, p: usize) -> ExitCode {
     let mut buffer = [0; 2049];
-    let input = read_input(&mut rt.stdin(), &mut buffer);
-    let count = input.count;
-    if input.failed {
+    let Ok(count) = read_input(&mut rt.stdin(), &mut buffer) else {
         let _ = eprintln!(rt; "explain: standard input can't be read");
         return ExitCode::FAILURE;
-    }
+    };
     let mut text = [0; 2048];
     let length = explain_input(&buffer[..count], table, p, &mut text);
     if rt.write_all(&text[..length]).is_err() {
@@ -86,12 +77,11 @@ fn answer(rt: &HostRuntime, table: u32, p: usize) -> ExitCode {
 
 // Exit status 2 where the arguments are no question.
 fn main(rt: HostRuntime) -> ExitCode {
-    let table = asked_table(&rt);
-    let pixel = asked_pixel(&rt);
-    if asks_no_more(&rt) && table.good && pixel.good {
-        answer(&rt, table.value, pixel.value as usize)
-    } else {
-        say_usage(&rt);
-        ExitCode::from(2)
+    match (asked(&rt, 1, table), asked(&rt, 2, pixel)) {
+        (Some(table), Some(pixel)) if asks_no_more(&rt) => answer(&rt, table, pixel as usize),
+        _ => {
+            say_usage(&rt);
+            ExitCode::from(2)
+        }
     }
 }

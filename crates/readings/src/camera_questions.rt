@@ -1,123 +1,107 @@
 // Questions about the camera: masks, ranges, resolution and addresses.
 use crate::line::Line;
+use crate::question::Question;
 use camera::{
-    AccessPattern, EepromAddress, RamAddress, Subpage, compensation_pixel, pixel_in_subpage,
+    EepromAddress, PixelAddressRange, RamAddress, compensation_pixel, pixel_in_subpage,
     pixel_range, pixel_range_count, resolution_correction,
 };
-
-// A number's first digit is pattern and subpage: 0 and 1 are Interleave Zero and One, 2 and 3 Chess Zero and One.
-pub fn pattern_of(n: u16) -> AccessPattern {
-    if n < 0x2000 {
-        AccessPattern::Interleave
-    } else {
-        AccessPattern::Chess
-    }
-}
-
-pub fn subpage_of(n: u16) -> Subpage {
-    if n / 0x1000 % 2 == 0 {
-        Subpage::Zero
-    } else {
-        Subpage::One
-    }
-}
-
-// Its other digits are a pixel or a range.
-pub fn rest_of(n: u16) -> usize {
-    (n % 0x1000) as usize
-}
+use refusal::Refusal;
+use std::alloc::AllocError;
 
 // The constants of EepromAddress, all of them, in the order of the original crate's address.rs.
-const EEPROM: [u16; 27] = [
-    EepromAddress::Base as u16,
-    EepromAddress::OffsetCompensation as u16,
-    EepromAddress::PixelOffsetAverage as u16,
-    EepromAddress::OffsetCompensationRowStart as u16,
-    EepromAddress::OffsetCompensationColumnStart as u16,
-    EepromAddress::SensitivityScale as u16,
-    EepromAddress::PixelSensitivityAverage as u16,
-    EepromAddress::PixelSensitivityCompensationRowStart as u16,
-    EepromAddress::PixelSensitivityCompensationColumnStart as u16,
-    EepromAddress::Gain as u16,
-    EepromAddress::Ptat25 as u16,
-    EepromAddress::PtatConstants as u16,
-    EepromAddress::VddConstants as u16,
-    EepromAddress::AverageVoltageConstants as u16,
-    EepromAddress::InterlacedModeCompensation as u16,
-    EepromAddress::AmbientTemperatureAverageConstantsEvenColumns as u16,
-    EepromAddress::AmbientTemperatureAverageConstantsOddColumns as u16,
-    EepromAddress::VAndTaScale as u16,
-    EepromAddress::CompensationPixelSensitivity as u16,
-    EepromAddress::CompensationPixelOffset as u16,
-    EepromAddress::CompensationPixelConstants as u16,
-    EepromAddress::AmbientTemperatureSensitivityConstant as u16,
-    EepromAddress::ObjectTemperatureSensitivityRangeConstants1 as u16,
-    EepromAddress::ObjectTemperatureSensitivityRangeConstants2 as u16,
-    EepromAddress::CornerTemperatures as u16,
-    EepromAddress::PixelCalibrationStart as u16,
-    EepromAddress::End as u16,
+const EEPROM: [EepromAddress; 27] = [
+    EepromAddress::Base,
+    EepromAddress::OffsetCompensation,
+    EepromAddress::PixelOffsetAverage,
+    EepromAddress::OffsetCompensationRowStart,
+    EepromAddress::OffsetCompensationColumnStart,
+    EepromAddress::SensitivityScale,
+    EepromAddress::PixelSensitivityAverage,
+    EepromAddress::PixelSensitivityCompensationRowStart,
+    EepromAddress::PixelSensitivityCompensationColumnStart,
+    EepromAddress::Gain,
+    EepromAddress::Ptat25,
+    EepromAddress::PtatConstants,
+    EepromAddress::VddConstants,
+    EepromAddress::AverageVoltageConstants,
+    EepromAddress::InterlacedModeCompensation,
+    EepromAddress::AmbientTemperatureAverageConstantsEvenColumns,
+    EepromAddress::AmbientTemperatureAverageConstantsOddColumns,
+    EepromAddress::VAndTaScale,
+    EepromAddress::CompensationPixelSensitivity,
+    EepromAddress::CompensationPixelOffset,
+    EepromAddress::CompensationPixelConstants,
+    EepromAddress::AmbientTemperatureSensitivityConstant,
+    EepromAddress::ObjectTemperatureSensitivityRangeConstants1,
+    EepromAddress::ObjectTemperatureSensitivityRangeConstants2,
+    EepromAddress::CornerTemperatures,
+    EepromAddress::PixelCalibrationStart,
+    EepromAddress::End,
 ];
 
 // The constants of RamAddress.
-const RAM: [u16; 8] = [
-    RamAddress::Base as u16,
-    RamAddress::AmbientTemperatureVoltageBe as u16,
-    RamAddress::CompensationPixelZero as u16,
-    RamAddress::Gain as u16,
-    RamAddress::AmbientTemperatureVoltage as u16,
-    RamAddress::CompensationPixelOne as u16,
-    RamAddress::PixelSupplyVoltage as u16,
-    RamAddress::End as u16,
+const RAM: [RamAddress; 8] = [
+    RamAddress::Base,
+    RamAddress::AmbientTemperatureVoltageBe,
+    RamAddress::CompensationPixelZero,
+    RamAddress::Gain,
+    RamAddress::AmbientTemperatureVoltage,
+    RamAddress::CompensationPixelOne,
+    RamAddress::PixelSupplyVoltage,
+    RamAddress::End,
 ];
 
-fn eeprom_address(n: u16) -> u16 {
-    let all = EEPROM;
-    let p = (n % 27) as usize;
-    all[p]
+// Whether the question's subpage holds a pixel.
+pub fn is_in_subpage(question: Question, pixel: usize) -> Result<bool, Refusal> {
+    pixel_in_subpage(question.pattern(), question.subpage(), pixel)
 }
 
-fn ram_address(n: u16) -> u16 {
-    let all = RAM;
-    let p = (n % 8) as usize;
-    all[p]
+fn range_of(question: Question) -> Result<PixelAddressRange, Refusal> {
+    pixel_range(question.pattern(), question.subpage(), question.rest())
 }
 
-// Whether a subpage holds a pixel: refusal and answer.
-fn mask(line: Line, n: u16) -> Line {
-    let answer = pixel_in_subpage(pattern_of(n), subpage_of(n), rest_of(n));
-    let refusal = answer.refusal;
-    line.refusal(refusal).number(answer.answer as usize)
+// The correction for two resolutions, of two digits each.
+fn resolution(n: u16) -> Result<f32, Refusal> {
+    resolution_correction((n / 256) as u8, (n % 256) as u8)
 }
 
-// Refusal, address, offset and length of a range.
-fn range(line: Line, n: u16) -> Line {
-    let answer = pixel_range(pattern_of(n), subpage_of(n), rest_of(n));
-    let refusal = answer.refusal;
-    let found = answer.range;
-    let address = found.start_address;
-    let offset = found.buffer_offset;
-    line.refusal(refusal)
-        .number(address.0 as usize)
-        .number(offset.0)
-        .number(found.length)
+// Refusal and answer.
+fn put_mask(line: &mut Line, question: Question) -> Result<(), AllocError> {
+    let answer = is_in_subpage(question, question.rest());
+    line.verdict(answer)?;
+    line.value(answer.unwrap_or(false) as u8)
 }
 
-// Refusal and factor. The two resolutions have two digits each.
-fn resolution(line: Line, n: u16) -> Line {
-    let answer = resolution_correction((n / 256) as u8, (n % 256) as u8);
-    let refusal = answer.refusal;
-    line.refusal(refusal).float(answer.value)
+// Refusal, address, offset and length of a range, which are 0 beside a refusal.
+fn put_range(line: &mut Line, question: Question) -> Result<(), AllocError> {
+    let answer = range_of(question);
+    line.verdict(answer)?;
+    let (address, offset, length) = match answer {
+        Ok(range) => (range.start_address.0, range.buffer_offset.0, range.length),
+        Err(_) => (0, 0, 0),
+    };
+    line.value(address)?;
+    line.value(offset)?;
+    line.value(length)
 }
 
-pub fn of_camera(line: Line, kind: u8, n: u16) -> Line {
-    match kind {
-        b'h' => mask(line, n),
-        b'r' => range(line, n),
-        b'R' => line.number(pixel_range_count(pattern_of(n))),
-        b'x' => line.number(compensation_pixel(subpage_of(n)).0 as usize),
-        b'q' => resolution(line, n),
-        b'e' => line.address(eeprom_address(n)),
-        b'm' => line.address(ram_address(n)),
-        _ => line,
+// Refusal and factor.
+fn put_resolution(line: &mut Line, n: u16) -> Result<(), AllocError> {
+    let answer = resolution(n);
+    line.verdict(answer)?;
+    line.float(answer.unwrap_or(0.0))
+}
+
+pub fn of_camera(line: &mut Line, question: Question) -> Result<(), AllocError> {
+    let n = question.n;
+    match question.kind {
+        b'h' => put_mask(line, question),
+        b'r' => put_range(line, question),
+        b'R' => line.value(pixel_range_count(question.pattern())),
+        b'x' => line.value(compensation_pixel(question.subpage()).0),
+        b'q' => put_resolution(line, n),
+        b'e' => line.address(EEPROM[(n % 27) as usize] as u16),
+        b'm' => line.address(RAM[(n % 8) as usize] as u16),
+        _ => Ok(()),
     }
 }

@@ -1,29 +1,31 @@
 // Questions to a gathering.
 use crate::line::Line;
+use crate::question::Question;
 use gathering::{Gathering, mark_number};
+use std::alloc::AllocError;
 
-// One of its words: mark and value, or the refusal.
-pub fn of_words(line: Line, gathering: Gathering, kind: u8, n: u16) -> Line {
-    let word = gathering.word(n as usize);
-    let refusal = word.refusal;
-    let mark = word.mark;
-    match kind {
-        b't' => line
-            .number(mark_number(mark) as usize)
-            .number(word.value as usize),
-        b'T' => line.refusal(refusal),
-        _ => line,
-    }
-}
-
-// All of it: how many words are missing and in conflict, and why it can't be decoded.
-pub fn of_gathering(line: Line, gathering: Gathering, kind: u8) -> Line {
-    match kind {
+pub fn of_gathering(
+    line: &mut Line,
+    gathering: &Gathering,
+    question: Question,
+) -> Result<(), AllocError> {
+    let known = gathering.word(question.n as usize);
+    match question.kind {
+        b't' => {
+            let (mark, value) = match known {
+                Ok(word) => (mark_number(word.mark), word.value),
+                Err(_) => (0, 0),
+            };
+            line.value(mark)?;
+            line.value(value)
+        }
+        b'T' => line.verdict(known),
         b's' => {
             let status = gathering.status();
-            line.number(status.missing).number(status.in_conflict)
+            line.value(status.missing)?;
+            line.value(status.in_conflict)
         }
-        b'S' => line.refusal(gathering.fault()),
-        _ => line,
+        b'S' => line.verdict(gathering.fault()),
+        _ => Ok(()),
     }
 }

@@ -3,16 +3,17 @@ ghost use Rattle.std.specs.Prelude.{◌≤◌};
 
 use eeprom::from_data;
 use gathering::Gathering;
-use record::Record;
-use refusal::{Code, code_of};
-use script::{bytes_of, front};
+use record::{Record, blank_record};
+use refusal::Verdict;
+use script::{Row, front};
 
-// The tables have room for two entries more than the decoder fills.
-#[derive(Clone, Copy)]
+// The length stands beside the image since a row can cut the same bytes elsewhere. The verdict is that of the last call. The tables have room for two entries more
+// than the decoder fills.
+#[derive(Drop)]
 pub struct Held {
-    pub image: [u8; 2496],
-    pub length: usize,
-    pub code: Code,
+    image: [u8; 2496],
+    length: usize,
+    pub verdict: Verdict,
     pub record: Record,
     pub offset: [i16; 770],
     pub alpha: [f32; 770],
@@ -35,25 +36,20 @@ fn entries(digits: u16) -> usize
 impl Held {
     // The first bytes of an image, decoded over tables of so many entries that are all the same before, and a fresh gathering.
     fn decoded(image: [u8; 2496], length: usize, digits: u16, before: i16) -> Self {
-        let a = entries(digits / 256);
-        let b = entries(digits / 16);
-        let c = entries(digits);
         let mut offset = [before; 770];
         let mut alpha = [before as f32; 770];
         let mut k_ta = [before as f32; 770];
-        let decoded = from_data(
+        let answer = from_data(
             front(&image, length),
-            &mut offset[..a],
-            &mut alpha[..b],
-            &mut k_ta[..c],
+            &mut offset[..entries(digits / 256)],
+            &mut alpha[..entries(digits / 16)],
+            &mut k_ta[..entries(digits)],
         );
-        let refusal = decoded.refusal;
-        let record = decoded.record;
         Held {
             image,
             length,
-            code: code_of(refusal),
-            record,
+            verdict: answer.map(|_| ()),
+            record: answer.unwrap_or(blank_record()),
             offset,
             alpha,
             k_ta,
@@ -66,46 +62,45 @@ impl Held {
         Held::decoded(image, length, 0, 0)
     }
 
-    // The same image with so many bytes.
-    pub fn cut(self, length: usize) -> Self {
-        let image = self.image;
-        Held::of_image(image, length)
-    }
-
     // The same image, decoded over tables of sevens.
-    pub fn over(self, digits: u16) -> Self {
-        let image = self.image;
-        Held::decoded(image, self.length, digits, 7)
+    pub fn over(&self, digits: u16) -> Self {
+        Held::decoded(self.image, self.length, digits, 7)
     }
 
-    // The same with what the decoder answered to the gathering.
-    pub fn gathered(self) -> Self {
-        let mut next = self;
+    pub fn image(&self) -> &[u8] {
+        front(&self.image, self.length)
+    }
+
+    // Decodes the gathering in the place of the image.
+    fn decode_gathering(&mut self) {
         let mut offset = [0; 768];
         let mut alpha = [0.0; 768];
         let mut k_ta = [0.0; 768];
-        let gathering = self.gathering;
-        let decoded = gathering.calibration(&mut offset, &mut alpha, &mut k_ta);
-        let refusal = decoded.refusal;
-        let code = code_of(refusal);
-        let record = decoded.record;
-        next.code = code;
-        next.record = record;
-        next
+        let answer = self
+            .gathering
+            .calibration(&mut offset, &mut alpha, &mut k_ta);
+        self.verdict = answer.map(|_| ());
+        self.record = answer.unwrap_or(blank_record());
     }
 
-    // The same after a block, with what the gathering answered to it.
-    pub fn taking(self, row: &[u8]) -> Self {
-        let mut next = self;
-        let block = bytes_of(row);
-        let bytes = block.bytes;
-        let before = self.gathering;
-        let accepted = before.accept(front(&bytes, block.count));
-        let refusal = accepted.refusal;
-        let code = code_of(refusal);
-        let gathering = accepted.gathering;
-        next.code = code;
-        next.gathering = gathering;
-        next
+    // Hands the gathering a block.
+    fn take(&mut self, block: &[u8]) {
+        let answer = self.gathering.accept(block);
+        self.gathering = answer.gathering;
+        self.verdict = answer.verdict;
+    }
+
+    // Sets up what a row says.
+    pub fn prepare(&mut self, row: Row<'_>) {
+        let a = row.number(1);
+        match row.letter(0) {
+            b'w' => *self = Held::of_image(row.image(), 1664),
+            b'c' => *self = Held::of_image(self.image, a as usize),
+            b'f' => *self = Held::of_image([(a % 256) as u8; 2496], row.number(2) as usize),
+            b'o' => *self = self.over(0),
+            b't' => self.take(row.block(&mut [0; 16])),
+            b'd' => self.decode_gathering(),
+            _ => {}
+        }
     }
 }

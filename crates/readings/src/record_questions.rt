@@ -1,25 +1,23 @@
 // Questions to the record: its fields, and what it has for a pixel or a compensation pixel.
-use crate::camera_questions::{pattern_of, rest_of, subpage_of};
 use crate::line::Line;
+use crate::question::Question;
 use record::{Record, interleave_correction_cp, interleave_correction_pixel, k_v_pixel};
+use refusal::Refusal;
+use std::alloc::AllocError;
 
 // The record's i16 numbers, corner_temperatures last.
-fn whole_at(r: Record, n: u16) -> i16 {
-    let corners = r.corner_temperatures;
-    let offsets = r.offset_reference_cp;
-    let p = (n % 4) as usize;
+fn whole_at(r: &Record, n: u16) -> i16 {
     match n {
         0 => r.k_v_dd,
         1 => r.v_dd_25,
-        2 => offsets[0],
-        3 => offsets[1],
-        _ => corners[p],
+        2 => r.offset_reference_cp[0],
+        3 => r.offset_reference_cp[1],
+        _ => r.corner_temperatures[(n % 4) as usize],
     }
 }
 
 // Its floats that stand alone, and alpha_cp.
-fn single_at(r: Record, n: u16) -> f32 {
-    let alpha = r.alpha_cp;
+fn single_at(r: &Record, n: u16) -> f32 {
     match n {
         0 => r.k_v_ptat,
         1 => r.k_t_ptat,
@@ -29,61 +27,53 @@ fn single_at(r: Record, n: u16) -> f32 {
         5 => r.k_s_ta,
         6 => r.k_v_cp,
         7 => r.k_ta_cp,
-        8 => alpha[0],
-        9 => alpha[1],
+        8 => r.alpha_cp[0],
+        9 => r.alpha_cp[1],
         _ => r.interleave_correction_cp,
     }
 }
 
-// One of four, and of six.
-fn of_four(four: [f32; 4], n: u16) -> f32 {
-    let p = (n % 4) as usize;
-    four[p]
-}
-
-fn of_six(six: [f32; 6], n: u16) -> f32 {
-    let p = (n % 16 % 6) as usize;
-    six[p]
-}
-
 // Its floats: those of its longer arrays have another third digit.
-fn float_at(r: Record, n: u16) -> f32 {
-    let k_s_to = r.k_s_to;
-    let k_v = r.k_v_pattern;
-    let six = r.interleave_correction_pixels;
+fn float_at(r: &Record, n: u16) -> f32 {
     match n / 16 {
-        1 => of_four(k_s_to, n),
-        2 => of_four(k_v, n),
-        3 => of_six(six, n),
+        1 => r.k_s_to[(n % 4) as usize],
+        2 => r.k_v_pattern[(n % 4) as usize],
+        3 => r.interleave_correction_pixels[(n % 16 % 6) as usize],
         _ => single_at(r, n),
     }
 }
 
 // The fields.
-pub fn of_record(line: Line, r: Record, kind: u8, n: u16) -> Line {
-    let gradient = r.temperature_gradient_coefficient;
-    match kind {
-        b'i' => line.whole(whole_at(r, n)),
-        b'u' => line.number(r.resolution as usize),
+pub fn of_record(line: &mut Line, r: &Record, question: Question) -> Result<(), AllocError> {
+    let n = question.n;
+    match question.kind {
+        b'i' => line.value(whole_at(r, n)),
+        b'u' => line.value(r.resolution),
         b'f' => line.float(float_at(r, n)),
-        b'g' => line.optional(gradient),
-        _ => line,
+        b'g' => line.optional(r.temperature_gradient_coefficient),
+        _ => Ok(()),
     }
 }
 
+// A pixel's correction.
+fn correction(r: &Record, question: Question) -> Result<Option<f32>, Refusal> {
+    interleave_correction_pixel(*r, question.pattern(), question.rest())
+}
+
+// The compensation pixel's correction.
+fn correction_cp(r: &Record, question: Question) -> Option<f32> {
+    interleave_correction_cp(*r, question.pattern(), question.subpage())
+}
+
 // What the record has for a pixel.
-pub fn of_pixels(line: Line, r: Record, kind: u8, n: u16) -> Line {
-    let k_v = k_v_pixel(r, n as usize);
-    let why_no_k_v = k_v.refusal;
-    let corrected = interleave_correction_pixel(r, pattern_of(n), rest_of(n));
-    let why_not = corrected.refusal;
-    let correction = corrected.correction;
-    match kind {
-        b'v' => line.float(k_v.value),
-        b'V' => line.refusal(why_no_k_v),
-        b'c' => line.optional(correction),
-        b'C' => line.refusal(why_not),
-        b'p' => line.optional(interleave_correction_cp(r, pattern_of(n), subpage_of(n))),
-        _ => line,
+pub fn of_pixels(line: &mut Line, r: &Record, question: Question) -> Result<(), AllocError> {
+    let n = question.n as usize;
+    match question.kind {
+        b'v' => line.float(k_v_pixel(*r, n).unwrap_or(0.0)),
+        b'V' => line.verdict(k_v_pixel(*r, n)),
+        b'c' => line.optional(correction(r, question).unwrap_or(None)),
+        b'C' => line.verdict(correction(r, question)),
+        b'p' => line.optional(correction_cp(r, question)),
+        _ => Ok(()),
     }
 }

@@ -2,30 +2,17 @@
 use crate::counting::how_many;
 use crate::held::Held;
 use crate::line::Line;
+use crate::question::Question;
+use std::alloc::AllocError;
 
-// An entry of each table.
-pub fn offset_at(held: Held, n: usize) -> i16 {
-    let p = n % 770;
-    held.offset[p]
-}
-
-pub fn alpha_at(held: Held, n: usize) -> f32 {
-    let p = n % 770;
-    held.alpha[p]
-}
-
-pub fn k_ta_at(held: Held, n: usize) -> f32 {
-    let p = n % 770;
-    held.k_ta[p]
-}
-
-pub fn of_tables(line: Line, held: Held, kind: u8, n: u16) -> Line {
-    match kind {
-        b'w' => line.code(held.code),
-        b'o' => line.whole(offset_at(held, n as usize)),
-        b'a' => line.float(alpha_at(held, n as usize)),
-        b'k' => line.float(k_ta_at(held, n as usize)),
-        b'O' | b'A' | b'K' | b'H' | b'L' | b'Z' => line.number(how_many(held, kind, n)),
-        _ => line,
+pub fn of_tables(line: &mut Line, held: &Held, question: Question) -> Result<(), AllocError> {
+    let p = (question.n % 770) as usize;
+    match question.kind {
+        b'w' => line.verdict(held.verdict),
+        b'o' => line.value(held.offset[p]),
+        b'a' => line.float(held.alpha[p]),
+        b'k' => line.float(held.k_ta[p]),
+        b'O' | b'A' | b'K' | b'H' | b'L' | b'Z' => line.value(how_many(held, question)),
+        _ => Ok(()),
     }
 }

@@ -3,138 +3,117 @@
 
 #![tactic(auto)]
 
-ghost use Rattle.std.specs.Prelude.{◌≤◌, ◌<◌, length};
+ghost use Rattle.std.specs.Prelude.{◌<◌, ◌^◌};
+
+use std::alloc::Global;
+use std::io;
+use std::io::Read;
+
+// The table that a program reads: 65,536 bytes at the most. A failed read ends it, as the input's end does.
+pub fn read_table<R: Read + Drop>(alloc: Global, reader: R) -> io::Result<Vec<u8>> {
+    let mut table = Vec::with_capacity(alloc, 65536)?;
+    let _ = reader.take(65536).read_to_end(&mut table);
+    Ok(table)
+}
 
 // The first n bytes, or all where there are no more.
 pub fn front(bytes: &[u8], n: usize) -> &[u8] {
-    if n <= bytes.len() { &bytes[..n] } else { bytes }
+    bytes.get(..n).unwrap_or(bytes)
 }
 
-// Where a byte stands first, or how many bytes there are.
-fn place_of(mark: u8, text: &[u8]) -> usize
-    ensures { result ≤ length text.now }
-{
-    let mut i = 0;
-    while i < text.len() {
-        if text[i] == mark {
-            return i;
-        }
-        i += 1;
-    }
-    text.len()
+// What stands before the first such byte and what stands behind it, where there is one.
+pub fn split_once(mark: u8, text: &[u8]) -> Option<(&[u8], &[u8])> {
+    let end = text.iter().position(|b| *b == mark)?;
+    Some((&text[..end], &text[end + 1..]))
 }
 
-// What stands before the first such byte.
-pub fn before(mark: u8, text: &[u8]) -> &[u8] {
-    let end = place_of(mark, text);
-    front(text, end)
-}
-
-// What stands after it: nothing where there is none.
-pub fn after(mark: u8, text: &[u8]) -> &[u8] {
-    let end = place_of(mark, text);
-    if end < text.len() {
-        let start = end + 1;
-        &text[start..]
-    } else {
-        &text[end..]
-    }
-}
-
-// Where the next row begins.
-pub fn next_row(table: &[u8], at: usize) -> usize
-    requires { at < length table.now }
-    ensures lower_bound { at < result }
-    ensures upper_bound { result ≤ length table.now }
-{
-    let rest = &table[at..];
-    let end = place_of(b'\n', rest);
-    if end < table.len() - at {
-        at + end + 1
-    } else {
-        table.len()
-    }
-}
-
-// The value of the hexadecimal digit at a place, 0 where there is none.
-fn digit(row: &[u8], at: usize) -> u16
-    ensures { result < 16 }
-{
-    let b = util::byte(row, at) as u16;
-    if b < 48 {
-        return 0;
-    }
-    if b < 58 {
-        return b - 48;
-    }
-    if b < 65 {
-        return 0;
-    }
-    if b < 71 {
-        return b - 55;
-    }
-    0
-}
-
-// Where place p of a row begins.
-fn start_of(p: usize) -> usize
-    ensures { result < 65536 }
-{
-    if p < 1000 { 5 * p } else { 5000 }
-}
-
-// The first letter of the word at a place.
-pub fn letter(row: &[u8], p: usize) -> u8 {
-    util::byte(row, start_of(p))
-}
-
-// The number at a place.
-pub fn number(row: &[u8], p: usize) -> u16 {
-    let at = start_of(p);
-    let a = digit(row, at);
-    let b = digit(row, at + 1);
-    let c = digit(row, at + 2);
-    let d = digit(row, at + 3);
-    a * 4096 + b * 256 + c * 16 + d
+// The same; where there is none, all of it, and nothing.
+pub fn cut(mark: u8, text: &[u8]) -> (&[u8], &[u8]) {
+    split_once(mark, text).unwrap_or((text, &[]))
 }
 
 // Sets the word at an address of the image, or behind it.
 fn set_word(image: &mut [u8; 2496], address: u16, value: u16) {
-    if 0x2400 <= address {
-        if address < 0x2800 {
-            let at = 2 * ((address - 0x2400) as usize);
-            image[at] = (value / 256) as u8;
-            image[at + 1] = (value % 256) as u8;
+    if (0x2400..0x2800).contains(&address) {
+        let at = 2 * (address - 0x2400) as usize;
+        image[at..at + 2].copy_from_slice(&value.to_be_bytes());
+    }
+}
+
+// A row of a table, as it stands there.
+#[derive(Clone, Copy)]
+pub struct Row<'a>(pub &'a [u8]);
+
+impl<'a> Row<'a> {
+    // What stands before the first bar.
+    pub fn places(self) -> Row<'a> {
+        Row(cut(b'|', self.0).0)
+    }
+
+    // What stands behind the first bar.
+    pub fn text(self) -> &'a [u8] {
+        cut(b'|', self.0).1
+    }
+
+    // What stands at a byte, 0 past the end.
+    fn byte(self, at: usize) -> u8 {
+        self.0.get(at).copied().unwrap_or(0)
+    }
+
+    // The value of the hexadecimal digit at a byte, 0 where there is none.
+    fn digit(self, at: usize) -> u8
+        ensures { result < 16 }
+    {
+        match self.byte(at) {
+            b @ b'0'..=b'9' => b - b'0',
+            b @ b'A'..=b'F' => b - b'A' + 10,
+            _ => 0,
         }
     }
-}
 
-// The image that is zero but for a row's words, an address, its value, and so on, with as much room behind its 1,664 bytes as a gathering has.
-pub fn image_of(row: &[u8]) -> [u8; 2496] {
-    let mut image = [0; 2496];
-    let mut i = 0;
-    while i < row.len() / 10 {
-        let p = 2 * i + 1;
-        set_word(&mut image, number(row, p), number(row, p + 1));
-        i += 1;
+    // The first letter of the word at a place.
+    pub fn letter(self, place: usize) -> u8 {
+        self.byte(start_of(place))
     }
-    image
-}
 
-// Some bytes, of which the first count.
-#[derive(Clone, Copy)]
-pub struct Bytes {
-    pub bytes: [u8; 16],
-    pub count: usize,
-}
-
-// The bytes of a row: the numbers from its second place on.
-pub fn bytes_of(row: &[u8]) -> Bytes {
-    let mut bytes = [0; 16];
-    let mut i = 0;
-    while i < row.len() / 5 {
-        bytes[i % 16] = (number(row, i + 1) % 256) as u8;
-        i += 1;
+    // The number at a place.
+    pub fn number(self, place: usize) -> u16 {
+        let at = start_of(place);
+        let high = 16 * self.digit(at) + self.digit(at + 1);
+        let low = 16 * self.digit(at + 2) + self.digit(at + 3);
+        u16::from_be_bytes([high, low])
     }
-    Bytes { bytes, count: i }
+
+    // How many pairs of places there are from the second place on.
+    pub fn pairs(self) -> usize
+        ensures { result < 2 ^ 60 }
+    {
+        self.0.len() / 10
+    }
+
+    // The image that is zero but for the row's words, an address, its value, and so on, with as much room behind its 1,664 bytes as a gathering has.
+    pub fn image(self) -> [u8; 2496] {
+        let mut image = [0; 2496];
+        for pair in 0..self.pairs() {
+            let place = 2 * pair + 1;
+            set_word(&mut image, self.number(place), self.number(place + 1));
+        }
+        image
+    }
+
+    // The bytes of the row: the numbers from its second place on. There is room for 16; a seventeenth takes the first one's place, and so on.
+    pub fn block(self, room: &mut [u8; 16]) -> &[u8] {
+        let count = self.0.len() / 5;
+        for i in 0..count {
+            room[i % 16] = (self.number(i + 1) % 256) as u8;
+        }
+        front(room, count)
+    }
+}
+
+// Where a place of a row begins. No more than a thousand are told apart: those behind place 1000 begin where it does.
+fn start_of(place: usize) -> usize
+    ensures { result < 65536 }
+{
+    5 * place.min(1000)
 }

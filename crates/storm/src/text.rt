@@ -1,24 +1,14 @@
-// Lines of what is printed.
+// Lines about a gathering.
 use gathering::Gathering;
 use refusal::code_of;
-use std::io::Result;
-
-pub fn print(rt: &impl Print, text: &[u8]) -> Result<()> {
-    rt.write_all(text)
-}
-
-// A name and a number.
-pub fn line(rt: &impl Print, name: &[u8], n: u64) -> Result<()> {
-    print(rt, name)?;
-    println!(rt; "{n}")
-}
+use std::io;
 
 // What a gathering answers to the questions about all words: how many are missing, after a name, how many in conflict, and why it can't be decoded.
-pub fn state(rt: &impl Print, name: &[u8], g: Gathering) -> Result<()> {
+pub fn print_state(rt: &impl Print, name: &str, g: &Gathering) -> io::Result<()> {
     let status = g.status();
     let fault = code_of(g.fault());
-    line(rt, name, status.missing as u64)?;
-    line(rt, b"  in conflict ", status.in_conflict as u64)?;
-    line(rt, b"  fault ", fault.number as u64)?;
-    line(rt, b"  at word ", fault.place as u64)
+    println!(rt; "{name} {}", status.missing)?;
+    println!(rt; "  in conflict {}", status.in_conflict)?;
+    println!(rt; "  fault {}", fault.number)?;
+    println!(rt; "  at word {}", fault.place)
 }

@@ -17,8 +17,8 @@ within : (h k : History) → Each h k → (x : List ℕ) → Memᴰ x h → Mem�
 within [] k e x m = absurd (Memᴰ.not-nil m)
 within (b ∷ h) k e x m = ⊎_elim (λ (q : x ≡ b). Memᴰ.cast q e.0) (λ (n : Memᴰ x h). within h k e.1 x n) (Memᴰ.cases_cons m)
 
-same : (h k : History) (g j : Gathering) → StateOf h g → StateOf k j → Each h k → Each k h → g ≡ j
-same h k g j s t d e = same_blocks h k g j s t (λ b a. (within h k d b, within k h e b))
+same : {h k : History} {g j : Gathering} → StateOf h g → StateOf k j → Each h k → Each k h → g ≡ j
+same {h} {k} {g} {j} s t d e = same_blocks h k g j s t (λ b a. (within h k d b, within k h e b))
 
 first : {a : List ℕ} {h : History} → Memᴰ a (a ∷ h)
 first = Memᴰ.head refl
@@ -29,32 +29,20 @@ second = Memᴰ.tail first
 -- b after a, and b, a and b again
 pub expect-requires : goal.expect-requires
 expect-requires c =
-    let a = c.args.a.now in
-    let b = c.args.b.now in
-    let has_a = c.after-only_a.ensures [] c.fresh-fresh.ensures.state_of in
-    let has_b = c.after-only_b.ensures [] c.fresh-fresh.ensures.state_of in
-    let has_ab = c.after-in_order.ensures (a ∷ []) has_a in
-    let again = c.after-2.ensures (a ∷ b ∷ []) (c.after.ensures (b ∷ []) has_b) in
-    c.equal.ensures (same (b ∷ a ∷ []) (b ∷ a ∷ b ∷ []) _ _ has_ab again (first, (second, tt)) (first, (second, (first, tt))))
+    let in_order = c.after-in_order.ensures _ c.alone-only_a.ensures in
+    let again = c.after-2.ensures _ (c.after.ensures _ c.alone-only_b.ensures) in
+    c.equal.ensures (same in_order again (first, (second, tt)) (first, (second, (first, tt))))
 
 -- b after a, and a and b merged
 pub expect-requires-2 : goal.expect-requires-2
 expect-requires-2 c =
-    let a = c.args.a.now in
-    let b = c.args.b.now in
-    let has_a = c.after-only_a.ensures [] c.fresh-fresh.ensures.state_of in
-    let has_b = c.after-only_b.ensures [] c.fresh-fresh.ensures.state_of in
-    let has_ab = c.after-in_order.ensures (a ∷ []) has_a in
-    let together = c.merge.ensures.state_of (a ∷ []) (b ∷ []) has_a has_b in
-    c.equal-2.ensures (same (b ∷ a ∷ []) (a ∷ b ∷ []) _ _ has_ab together (second, (first, tt)) (second, (first, tt)))
+    let in_order = c.after-in_order.ensures _ c.alone-only_a.ensures in
+    let together = c.merged.ensures _ _ c.alone-only_a.ensures c.alone-only_b.ensures in
+    c.equal-2.ensures (same in_order together (second, (first, tt)) (second, (first, tt)))
 
 -- b after a, and that merged into b
 pub expect-requires-3 : goal.expect-requires-3
 expect-requires-3 c =
-    let a = c.args.a.now in
-    let b = c.args.b.now in
-    let has_a = c.after-only_a.ensures [] c.fresh-fresh.ensures.state_of in
-    let has_b = c.after-only_b.ensures [] c.fresh-fresh.ensures.state_of in
-    let has_ab = c.after-in_order.ensures (a ∷ []) has_a in
-    let together = c.merge-2.ensures.state_of (b ∷ []) (b ∷ a ∷ []) has_b has_ab in
-    c.equal-3.ensures (same (b ∷ a ∷ []) (b ∷ b ∷ a ∷ []) _ _ has_ab together (first, (Memᴰ.tail second, tt)) (first, (first, (second, tt))))
+    let in_order = c.after-in_order.ensures _ c.alone-only_a.ensures in
+    let together = c.merged-2.ensures _ _ c.alone-only_b.ensures in_order in
+    c.equal-3.ensures (same in_order together (first, (Memᴰ.tail second, tt)) (first, (first, (second, tt))))

@@ -1,9 +1,0 @@
--- Each turn leaves a row behind.
-use Rattle.std.proofs.Common.{length, ◌-◌, ◌≤◌}
-use Rattle.readings.proofs.rows.all_rows.Given as goal
-
-abbrev pub invariant-loop-at : goal.invariant-loop-at
-invariant-loop-at g l = l.at ≤ length l.table
-
-abbrev pub decreases-loop-at : goal.decreases-loop-at
-decreases-loop-at g l = length l.table - l.at

@@ -1,9 +1,0 @@
--- Each turn goes one byte on, up to the text's end.
-use Rattle.std.proofs.Common.{length, ◌-◌, ◌≤◌}
-use Rattle.script.proofs.place_of.Given as goal
-
-abbrev pub invariant-loop-i : goal.invariant-loop-i
-invariant-loop-i l = l.i ≤ length l.text
-
-abbrev pub decreases-loop-i : goal.decreases-loop-i
-decreases-loop-i l = length l.text - l.i

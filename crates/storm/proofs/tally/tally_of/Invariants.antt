@@ -1,9 +1,0 @@
--- Each place is below 832.
-use Rattle.std.proofs.Common.{◌-◌, ◌≤◌}
-use Rattle.storm.proofs.tally.tally_of.Given as goal
-
-abbrev pub invariant-loop-w : goal.invariant-loop-w
-invariant-loop-w l = l.w ≤ 832
-
-abbrev pub decreases-loop-w : goal.decreases-loop-w
-decreases-loop-w l = 832 - l.w
