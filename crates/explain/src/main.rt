@@ -3,17 +3,16 @@
 
 #![tactic(auto)]
 
-ghost use Rattle.std.specs.Prelude.{◌≡◌, ◌<◌, IfOk, length, take, drop};
+ghost use Rattle.std.specs.Prelude.{◌≡◌, ◌<◌, MatchResult, length, take, drop};
 ghost use Rattle.io.specs.Counts.{IsPrefixLen};
 ghost use Rattle.explanation.specs.Explanation.{explanation_of};
 ghost use Rattle.wording.specs.Wording.{wording};
 ghost use Rattle.page.specs.Page.{image_in};
 
 use asking::{pixel, table};
-use input::fill;
+use input::{Broken, fill};
 use page::image_length;
 use std::env::{Env, FillError};
-use std::io;
 use std::io::Read;
 use std::process::ExitCode;
 use wording::explain_image;
@@ -30,9 +29,10 @@ fn explain_input(input: &[u8], table: u32, p: usize, out: &mut [u8; 2048]) -> us
 }
 
 // Reads an input into a buffer with room for more than a page: what fills it is longer than a page, and the rest of it need not be read.
-fn read_input<R: Read>(reader: &mut R, buffer: &mut [u8]) -> io::Result<usize>
+// As in caldump: that the buffer is longer than a page is each program's own promise (caldump/page_fills_buffer).
+fn read_input<R: Read>(reader: &mut R, buffer: &mut [u8]) -> Result<usize, Broken>
     requires { 2048 < length buffer.old }
-    ensures { IfOk result (λ count. IsPrefixLen count buffer.new) }
+    ensures { MatchResult result (λ count. IsPrefixLen count buffer.new) (λ broken. IsPrefixLen broken.count buffer.new) }
 {
     fill(reader, buffer)
 }
