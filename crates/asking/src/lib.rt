@@ -4,7 +4,8 @@
 
 use script::split_once;
 
-// A number in decimal: one digit or more, and nothing else. One that is too large for a u32 is the largest, which no table and no pixel has.
+// A number in decimal: one digit or more, and nothing else. One that is too large for a u32, which parse would
+// refuse, is the largest, which no table and no pixel has.
 fn number(text: &[u8]) -> Option<u32> {
     if text.is_empty() {
         return None;

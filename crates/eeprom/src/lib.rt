@@ -57,6 +57,7 @@ fn tables_short(offset: usize, alpha: usize, k_ta: usize) -> bool
 }
 
 // Decodes an image into a record and three lent tables. Refusals 1, 2, then the walk's 3 and 4; a refused call writes nothing.
+// Three slices, since the C interface lends them so.
 pub fn from_data(
     image: &[u8],
     offset: &mut [i16],

@@ -54,6 +54,7 @@ pub(crate) fn failure_of(table: Table, parts: Parts) -> Option<Failure>
 }
 
 // How many of a pixel's four numbers are inside before the failure.
+// A number, since `up_to` and `reached` (specs/Explanation.antt) count the steps.
 pub fn reached_by(failure: Option<Failure>) -> u32
     ensures { result ≡ reached failure }
 {

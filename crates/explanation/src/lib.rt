@@ -63,6 +63,7 @@ pub enum Entry {
 
 // An answer. `found` is what the decoder answers for the image: accepted, 3 or 4. `table` and `pixel` are those asked for or, beside a 3 or a 4, those that it
 // names. What comes after a failure is blank, and there is no entry.
+// Blank and not absent: the C interface has a number in each place (`explanation_bytes`).
 #[derive(Clone, Copy, Debug, PartialEq)]
 pub struct Explanation {
     pub found: Verdict,

@@ -53,6 +53,7 @@ fn stored_pixel(gathering: &[u8], p: usize) -> Result<PixelEntries, Refusal>
     ensures { result ≡ answered (stored_fault gathering.now p) (stored_words gathering.now) p }
 {
     let words = needed(p);
+    // Two arrays, as a gathering has two.
     let values = words_at(gathering, &words);
     let marks = get_marks_at(gathering, &words);
     pixel_of_cells(&values, &marks, p)

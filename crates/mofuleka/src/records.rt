@@ -26,6 +26,7 @@ fn stored_record(bytes: &[u8]) -> Record
 }
 
 // A pixel's Kv.
+// Alike with those below: each is a name of the C interface, and makes the bits of its own number.
 fn k_v_word(record: Record, pixel: usize) -> Result<u64, Refusal>
     ensures { result ≡ k_v_word «record» pixel }
 {
@@ -92,7 +93,6 @@ pub fn mofuleka_interleave_correction_cp(record: &[u8], pattern: u32, subpage: u
 }
 
 // The sensitivity of a subpage's compensation pixel.
-// Alike with the next: each is one number of the C interface, and its bits are made in its own way.
 fn alpha_cp_word(record: Record, subpage: u32) -> Result<u64, Refusal>
     ensures { result ≡ alpha_cp_word «record» subpage }
 {

@@ -60,7 +60,7 @@ impl<'a> Row<'a> {
         self.0.get(at).copied().unwrap_or(0)
     }
 
-    // The value of the hexadecimal digit at a byte, 0 where there is none.
+    // The value of the hexadecimal digit at a byte, 0 where there is none: a lower-case letter is none, which to_digit would take for one.
     fn digit(self, at: usize) -> u8
         ensures { result < 16 }
     {

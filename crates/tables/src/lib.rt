@@ -72,7 +72,8 @@ fn narrowed(wide: &[i32; 64]) -> [i16; 64]
 }
 
 // The offset table.
-// The three ask by a clause, and not by a type, that the walk refuses nothing: eeprom/refused_writes, which drops the walk's answer, is refused by it.
+// The three ask by a clause, and not by a type, that the walk refuses nothing: eeprom/refused_writes, which drops the walk's answer, is refused by it. That there is room for
+// 768 entries is a clause as well: the slices are lent by C, and `from_data` tests them. Alike but for their words and scales, which one over all would take.
 pub fn fill_offset(words: &[u16; 832], out: &mut [i16])
     requires { (first_outside (walk (listed words.now)) ≡ accepted) × (768 ≤ length out.old) }
     ensures { out.new ≡ written 768 (offset_at (listed words.now)) out.old }

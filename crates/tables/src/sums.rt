@@ -9,7 +9,7 @@ use camera::PIXEL_CALIBRATION;
 use util::i16_from_bits;
 
 // The columns are given twice, for even rows and for odd ones, and in 16 bits, so that many go through a loop at once. A remainder has width bits of
-// its pixel's word from bit low up.
+// its pixel's word from bit low up. Not one with the walk's Glance: its columns have 32 bits, and its invariant is another.
 #[derive(Clone, Copy)]
 pub(crate) struct Sums<'a> {
     pub words: &'a [u16; 832],

@@ -13,7 +13,7 @@ fn reach(words: &[u16; 832], first: usize, count: usize) -> u32
     ensures { Reaches (listed words.now) first count result }
 {
     let sizes = (0..count).map(|k| magnitude(i32::from(nibble_at(words, first, k))));
-    // A fold: the loop of max() has a comparison by an enum in it, and doesn't go through many nibbles at once.
+    // A fold: the loop of max() has a comparison by an enum in it, and doesn't go through many nibbles at once; what that took stands beside `column_terms`.
     sizes.fold(0, u32::max)
 }
 

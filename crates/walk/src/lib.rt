@@ -33,7 +33,7 @@ pub struct PixelTerms {
     pub sum: i32,
 }
 
-// The first fault of the offset table.
+// The first fault of the offset table. The three tables differ in their bound, their rows and columns, and three constants, which one over all would take.
 fn offset_refusal(words: &[u16; 832]) -> Verdict
     ensures { result ≡ first_outside (table_steps (listed words.now) Offset) }
 {

@@ -9,7 +9,7 @@ use std::array;
 use util::i16_from_bits;
 
 // The average with the term of row r.
-// So with rows below 24 and with base, a table's place among the words: one clause each, which a type of their own would not shorten.
+// That a row is below 24, a column below 32 and a table's base at most 32 is one clause each, which a type of their own would not shorten.
 fn row_sum(words: &[u16; 832], base: usize, r: usize) -> i32
     requires { (base ≤ 32) × (r < 24) }
     ensures { result ≡ row_sum (listed words.now) base r }
@@ -34,7 +34,8 @@ pub fn column_terms(words: &[u16; 832], base: usize) -> [i32; 64]
     ensures result_len { length result ≡ 64 }
 {
     let mut terms = [0; 64];
-    // A loop, and not array::from_fn with i % 32: those copies go one at a time, and a decode takes longer.
+    // A loop, and not array::from_fn with i % 32: those copies go one at a time, and with a max() in `reach` a decode took 1.21 times as long, past the targets
+    // of docs/SPEED.md.
     for c in 0..32 {
         let term = bulk_term(words, base, COLUMN_BULK, c);
         terms[c] = term;

@@ -1,4 +1,6 @@
 // The lines of an explanation: which pixel it is, its fields, and their sums, up to the failure.
+// The flags `given` are no Options: the part is there in any case, and the flag says whether it is shown. A closure for the line would need a contract on the
+// buffer in each place.
 ghost use Rattle.std.specs.Prelude.{◌≡◌, not, ◌++◌, leb};
 ghost use Rattle.refusal.specs.Code.{code_of, accepted_by};
 ghost use Rattle.listing.specs.Text.{ascii};
@@ -105,7 +107,6 @@ fn put_column(given: bool, out: &mut [u8], at: usize, parts: Parts) -> usize
 }
 
 // The sum after the column, where it is reached.
-// A flag and no Option: the part is there in any case, and the flag says whether it is shown. A closure for the line would need a contract on the buffer.
 #[tactic(auto, using(listing::proofs::Typing::done))]
 fn put_after_column(given: bool, out: &mut [u8], at: usize, z: i32) -> usize
     ensures { (out.new, result) ≡ typed (when given (number_line (ascii "after_column ") z)) (out.old, at) }
