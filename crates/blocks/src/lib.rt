@@ -20,7 +20,7 @@ pub fn read_block(block: &[u8]) -> Result<Block, Refusal>
     ensures value { result ≡ read_block block.now }
     ensures inside { Inside block.now result }
 {
-    let l = util::word(block, 0) as usize;
+    let l = usize::from(util::word(block, 0));
     if block.len() < 2 || block.len() != l + 2 {
         return Err(Refusal::BlockLength);
     }
@@ -30,7 +30,7 @@ pub fn read_block(block: &[u8]) -> Result<Block, Refusal>
     if block[2] != 1 {
         return Err(Refusal::BlockVersion);
     }
-    let first = util::word(&block[3..], 0) as usize;
+    let first = usize::from(util::word(&block[3..], 0));
     let count = (l - 3) / 2;
     if 832 < first + count {
         return Err(Refusal::BlockRange);

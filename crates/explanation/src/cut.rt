@@ -119,7 +119,7 @@ fn entry_of(table: Table, numerator: i32, exponent: u16) -> Entry
 {
     match table {
         Table::Offset => Entry::Whole(numerator as i16),
-        Table::Alpha | Table::Kta => Entry::Fraction(over_power(numerator, exponent as usize)),
+        Table::Alpha | Table::Kta => Entry::Fraction(over_power(numerator, usize::from(exponent))),
     }
 }
 

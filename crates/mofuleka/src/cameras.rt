@@ -18,7 +18,7 @@ fn mask_word(pattern: u32, subpage: u32, pixel: usize) -> Result<u64, Refusal>
     let pattern = AccessPattern::try_from(pattern)?;
     let subpage = Subpage::try_from(subpage)?;
     let held = pixel_in_subpage(pattern, subpage, pixel)?;
-    Ok(valued(held as u64))
+    Ok(valued(u64::from(held)))
 }
 
 // Whether a pixel is in a subpage.
@@ -49,7 +49,7 @@ fn range_word(pattern: u32, subpage: u32, number: usize) -> Result<u64, Refusal>
     let pattern = AccessPattern::try_from(pattern)?;
     let subpage = Subpage::try_from(subpage)?;
     let range = pixel_range(pattern, subpage, number)?;
-    let address = range.start_address.0 as u64;
+    let address = u64::from(range.start_address.0);
     let offset = range.buffer_offset.0 as u64;
     let length = range.length as u64;
     Ok(valued(address * 0x100000000 + offset * 0x10000 + length))
@@ -66,7 +66,7 @@ fn compensation_word(subpage: u32) -> Result<u64, Refusal>
     ensures { result ≡ compensation_word subpage }
 {
     let subpage = Subpage::try_from(subpage)?;
-    Ok(valued(compensation_pixel(subpage).0 as u64))
+    Ok(valued(u64::from(compensation_pixel(subpage).0)))
 }
 
 // The address of a subpage's compensation pixel.
@@ -87,7 +87,7 @@ fn resolution_word(calibrated: u32, current: u32) -> Result<u64, Refusal>
     ensures { result ≡ resolution_word calibrated current }
 {
     let correction = resolution_correction(as_byte(calibrated), as_byte(current))?;
-    Ok(valued(bits(correction) as u64))
+    Ok(valued(u64::from(bits(correction))))
 }
 
 // 2 to the power calibrated minus current.

@@ -31,7 +31,7 @@ fn k_v_word(record: Record, pixel: usize) -> Result<u64, Refusal>
     ensures { result ≡ k_v_word «record» pixel }
 {
     let k_v = k_v_pixel(record, pixel)?;
-    Ok(valued(bits(k_v) as u64))
+    Ok(valued(u64::from(bits(k_v))))
 }
 
 pub fn mofuleka_k_v_pixel(record: &[u8], pixel: usize) -> u64
@@ -97,7 +97,7 @@ fn alpha_cp_word(record: Record, subpage: u32) -> Result<u64, Refusal>
     ensures { result ≡ alpha_cp_word «record» subpage }
 {
     let subpage = Subpage::try_from(subpage)?;
-    Ok(valued(bits(alpha_cp_of(record, subpage)) as u64))
+    Ok(valued(u64::from(bits(alpha_cp_of(record, subpage)))))
 }
 
 pub fn mofuleka_alpha_cp(record: &[u8], subpage: u32) -> u64
@@ -115,7 +115,7 @@ fn offset_cp_word(record: Record, subpage: u32) -> Result<u64, Refusal>
     ensures { result ≡ offset_cp_word «record» subpage }
 {
     let subpage = Subpage::try_from(subpage)?;
-    Ok(valued(i16_bits(offset_reference_cp_of(record, subpage)) as u64))
+    Ok(valued(u64::from(i16_bits(offset_reference_cp_of(record, subpage)))))
 }
 
 pub fn mofuleka_offset_reference_cp(record: &[u8], subpage: u32) -> u64
