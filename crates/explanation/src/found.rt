@@ -19,9 +19,10 @@ pub(crate) fn table_in(found: Verdict, asked: Table) -> Table
 pub(crate) fn pixel_in(found: Verdict, asked: usize) -> usize
     ensures { result ≡ pixel_in found asked }
 {
-    if found.is_ok() {
+    let code = code_of(found);
+    if code.is_accepted() {
         asked
     } else {
-        code_of(found).place as usize
+        code.place as usize
     }
 }
