@@ -22,9 +22,13 @@ pub fn read_words(image: &[u8]) -> [u16; 832]
     requires { 1664 ≤ length image.now }
     ensures { result ≡ tab (image_words image.now) 832 }
 {
+    // The bytes as they lie, and then each word's two swapped: a loop that computes leaves the zeros before it to be written whole, by memset.
     let mut words = [0; 832];
     for n in 16..832 {
-        words[n] = u16::from_be_bytes([image[2 * n], image[2 * n + 1]]);
+        words[n] = u16::from_le_bytes([image[2 * n], image[2 * n + 1]]);
+    }
+    for word in &mut words {
+        *word = word.swap_bytes();
     }
     words
 }
