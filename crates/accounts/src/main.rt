@@ -36,8 +36,9 @@ fn tell(rt: &impl Print, row: Row<'_>) -> Result<()> {
 }
 
 fn main(rt: HostRuntime) -> Result<()> {
-    let table = read_table(rt.alloc(), rt.stdin())?;
-    for line in table.as_slice().split(|b| *b == b'\n') {
+    let mut room = [0; 65536];
+    let table = read_table(&mut rt.stdin(), &mut room);
+    for line in table.split(|b| *b == b'\n') {
         tell(&rt, Row(line))?;
     }
     Ok(())

@@ -19,6 +19,6 @@ use script::read_table;
 use std::io::Result;
 
 fn main(rt: HostRuntime) -> Result<()> {
-    let table = read_table(rt.alloc(), rt.stdin())?;
-    all_rows(&rt, table.as_slice())
+    let mut room = [0; 65536];
+    all_rows(&rt, read_table(&mut rt.stdin(), &mut room))
 }

@@ -6,7 +6,7 @@ use camera::{
     pixel_range, pixel_range_count, resolution_correction,
 };
 use refusal::Refusal;
-use std::alloc::AllocError;
+use std::fmt;
 
 // The constants of EepromAddress, all of them, in the order of the original crate's address.rs.
 const EEPROM: [EepromAddress; 27] = [
@@ -66,14 +66,14 @@ fn resolution(n: u16) -> Result<f32, Refusal> {
 }
 
 // Refusal and answer.
-fn put_mask(line: &mut Line, question: Question) -> Result<(), AllocError> {
+fn put_mask(line: &mut Line, question: Question) -> fmt::Result {
     let answer = is_in_subpage(question, question.rest());
     line.verdict(answer)?;
     line.value(answer.unwrap_or(false) as u8)
 }
 
 // Refusal, address, offset and length of a range, which are 0 beside a refusal.
-fn put_range(line: &mut Line, question: Question) -> Result<(), AllocError> {
+fn put_range(line: &mut Line, question: Question) -> fmt::Result {
     let answer = range_of(question);
     line.verdict(answer)?;
     let (address, offset, length) = match answer {
@@ -86,13 +86,13 @@ fn put_range(line: &mut Line, question: Question) -> Result<(), AllocError> {
 }
 
 // Refusal and factor.
-fn put_resolution(line: &mut Line, n: u16) -> Result<(), AllocError> {
+fn put_resolution(line: &mut Line, n: u16) -> fmt::Result {
     let answer = resolution(n);
     line.verdict(answer)?;
     line.float(answer.unwrap_or(0.0))
 }
 
-pub fn of_camera(line: &mut Line, question: Question) -> Result<(), AllocError> {
+pub fn of_camera(line: &mut Line, question: Question) -> fmt::Result {
     let n = question.n;
     match question.kind {
         b'h' => put_mask(line, question),

@@ -2,13 +2,9 @@
 use crate::line::Line;
 use crate::question::Question;
 use gathering::{Gathering, mark_number};
-use std::alloc::AllocError;
+use std::fmt;
 
-pub fn of_gathering(
-    line: &mut Line,
-    gathering: &Gathering,
-    question: Question,
-) -> Result<(), AllocError> {
+pub fn of_gathering(line: &mut Line, gathering: &Gathering, question: Question) -> fmt::Result {
     let known = gathering.word(question.n as usize);
     match question.kind {
         b't' => {

@@ -3,7 +3,7 @@ use crate::line::Line;
 use crate::question::Question;
 use record::{Record, interleave_correction_cp, interleave_correction_pixel, k_v_pixel};
 use refusal::Refusal;
-use std::alloc::AllocError;
+use std::fmt;
 
 // The record's i16 numbers, corner_temperatures last.
 fn whole_at(r: &Record, n: u16) -> i16 {
@@ -44,7 +44,7 @@ fn float_at(r: &Record, n: u16) -> f32 {
 }
 
 // The fields.
-pub fn of_record(line: &mut Line, r: &Record, question: Question) -> Result<(), AllocError> {
+pub fn of_record(line: &mut Line, r: &Record, question: Question) -> fmt::Result {
     let n = question.n;
     match question.kind {
         b'i' => line.value(whole_at(r, n)),
@@ -66,7 +66,7 @@ fn correction_cp(r: &Record, question: Question) -> Option<f32> {
 }
 
 // What the record has for a pixel.
-pub fn of_pixels(line: &mut Line, r: &Record, question: Question) -> Result<(), AllocError> {
+pub fn of_pixels(line: &mut Line, r: &Record, question: Question) -> fmt::Result {
     let n = question.n as usize;
     match question.kind {
         b'v' => line.float(k_v_pixel(*r, n).unwrap_or(0.0)),

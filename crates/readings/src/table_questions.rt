@@ -3,9 +3,9 @@ use crate::counting::how_many;
 use crate::held::Held;
 use crate::line::Line;
 use crate::question::Question;
-use std::alloc::AllocError;
+use std::fmt;
 
-pub fn of_tables(line: &mut Line, held: &Held, question: Question) -> Result<(), AllocError> {
+pub fn of_tables(line: &mut Line, held: &Held, question: Question) -> fmt::Result {
     let p = (question.n % 770) as usize;
     match question.kind {
         b'w' => line.verdict(held.verdict),

@@ -4,6 +4,7 @@
 
 #![tactic(auto)]
 
+use input::fill;
 use mofuleka::mofuleka_from_data;
 use std::io;
 use std::io::Read;
@@ -34,8 +35,10 @@ enum Stop {
 // The next N bytes of the sample, where it has as many.
 fn next<R: Read, const N: usize>(reader: &mut R) -> Option<[u8; N]> {
     let mut bytes = [0; N];
-    reader.read_exact(&mut bytes).ok()?;
-    Some(bytes)
+    match fill(reader, &mut bytes) {
+        Ok(count) if count == N => Some(bytes),
+        _ => None,
+    }
 }
 
 // The next image of the sample, in a larger room: zeros but for so many words, each behind its number.

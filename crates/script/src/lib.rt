@@ -5,15 +5,16 @@
 
 ghost use Rattle.std.specs.Prelude.{◌<◌, ◌^◌};
 
-use std::alloc::Global;
-use std::io;
+use input::fill;
 use std::io::Read;
 
-// The table that a program reads: 65,536 bytes at the most. A failed read ends it, as the input's end does.
-pub fn read_table<R: Read + Drop>(alloc: Global, reader: R) -> io::Result<Vec<u8>> {
-    let mut table = Vec::with_capacity(alloc, 65536)?;
-    let _ = reader.take(65536).read_to_end(&mut table);
-    Ok(table)
+// The table that a program reads, in the room that is lent: as much of it as there is room for. A failed read ends it, as the input's end does.
+pub fn read_table<'a, R: Read>(reader: &mut R, room: &'a mut [u8; 65536]) -> &'a [u8] {
+    let count = match fill(reader, room) {
+        Ok(count) => count,
+        Err(broken) => broken.count,
+    };
+    front(room, count)
 }
 
 // The first n bytes, or all where there are no more.
