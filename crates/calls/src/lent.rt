@@ -14,7 +14,7 @@ pub fn room(whole: usize, short: bool) -> usize
 
 // An image, of which so many bytes are lent, the record of an image, and two gatherings, of which the first may be lent a byte short. The length stands beside the image
 // since a row can lend fewer of the same bytes, or more.
-#[derive(Drop)]
+#[derive(Clone, Copy)]
 pub struct Lent {
     image: [u8; 2496],
     length: usize,

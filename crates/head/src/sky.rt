@@ -43,7 +43,7 @@ pub struct Step {
 }
 
 // The steps of the storm, without end.
-#[derive(Debug, Drop)]
+#[derive(Clone, Copy, Debug)]
 pub struct Sky {
     slots: [Recipe; 8],
     random: u32,

@@ -9,7 +9,7 @@ use script::{Row, front};
 
 // The length stands beside the image since a row can cut the same bytes elsewhere. The verdict is that of the last call. The tables have room for two entries more
 // than the decoder fills.
-#[derive(Drop)]
+#[derive(Clone, Copy)]
 pub struct Held {
     image: [u8; 2496],
     length: usize,
