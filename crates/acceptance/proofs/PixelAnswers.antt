@@ -1,12 +1,14 @@
 -- The public functions of `pixel` have no second answer, and its entry points ask for nothing: each contract is an equation for what is answered.
 -- Assumes nothing.
-use mathlib.Core.Path.{◌≡◌, refl, sym, ◌∙◌}
+use mathlib.Core.Path.{◌≡◌, refl, sym, ap, ◌∙◌}
 use mathlib.Core.List.{[]}
 use lib.ListN.{replicate}
-use Rattle.std.specs.Prelude.{ℤ, Float, Err}
-use Rattle.refusal.specs.Code.{accepted}
+use Rattle.std.specs.Prelude.{ℕ, List, ℤ, Float, length, Err}
+use Rattle.refusal.specs.Code.{Verdict, accepted, or_else}
+use Rattle.refusal.specs.declared.Refusal.{Refusal}
 use Rattle.refusal.specs.declared.Refusal.TheVariants.{ImageLength, PastTheEnd}
-use Rattle.pixel.specs.Answer.{answer_with, answered}
+use Rattle.eeprom.specs.Image.{image_words}
+use Rattle.pixel.specs.Answer.{answer_with, answered, tests_of, pixel_fault}
 use Rattle.acceptance.specs.Determined.{OneAnswer, EntryPoint, Only, slice}
 use Rattle.pixel.proofs.needed.Kinds as NeededK
 use Rattle.pixel.proofs.needed.Reads as Needed
@@ -53,6 +55,8 @@ pub asked-pixel : Only PixelK.ps PixelK.r Pixel.Learnt (λ _. (slice [], (768, t
 unfolding answered
 asked-pixel = (λ _ _ p. p, λ _ _ p. p)
 
--- and beside a refusal there is no number, whatever the three would have been
-pub asked-refused : (offset : ℤ) (alpha kta : Float) → answer_with (Err PastTheEnd) offset alpha kta ≡ Err PastTheEnd
-asked-refused offset alpha kta = refl
+-- and beside a refusal there is no number, whatever the three would have been: an image and a pixel that the tests refuse get that very refusal alone
+pub asked-refused : ((image : List ℕ) (p : ℕ) (r : Refusal) → tests_of (length image) p ≡ Err r → Only PixelK.ps PixelK.r Pixel.Learnt (λ _. (slice image, (p, tt))) (λ _. Err r))
+    × ((offset : ℤ) (alpha kta : Float) → answer_with (Err PastTheEnd) offset alpha kta ≡ Err PastTheEnd)
+unfolding answered
+asked-refused = (λ image p r e _ _ q. q ∙ ap (λ (t : Verdict). answered (or_else t (pixel_fault (image_words image) p)) (image_words image) p) e, λ _ _ _. refl)
